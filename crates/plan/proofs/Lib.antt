@@ -1,0 +1,9 @@
+pub mod Counted
+pub mod Kept
+pub mod Work
+pub mod RowOrder
+pub mod Walk
+pub mod Taking
+pub mod Setting
+pub mod Spelling
+pub mod FileLaws

@@ -1,0 +1,11 @@
+pub mod Limits
+pub mod Counting
+pub mod Content
+pub mod Rules
+pub mod Plans
+pub mod Faults
+pub mod Entries
+pub mod File
+pub mod Readers
+pub mod Drafts
+pub mod Laws
