@@ -1,0 +1,9 @@
+pub mod Notes
+pub mod Activating
+pub mod Spacing
+pub mod Keeping
+pub mod TickSteps
+pub mod Calling
+pub mod Whole
+pub mod RunLaws
+pub mod ServiceLaw

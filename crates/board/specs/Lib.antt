@@ -1,0 +1,9 @@
+pub mod Refusals
+pub mod Models
+pub mod Records
+pub mod Waits
+pub mod Ticks
+pub mod Soundness
+pub mod Drives
+pub mod Boards
+pub mod Laws
