@@ -12,7 +12,7 @@ use Rattle.std.specs.Options.{isSome}
 use Rattle.std.specs.declared.option.Option.{Option}
 use Rattle.std.specs.declared.option.Option.the-variants.{Some, None}
 use Rattle.plan.specs.Content.{Content, tableCount, taskCount, durationOf, tableOf, positionOf, taskAt}
-use Rattle.plan.specs.Counting.{inRange}
+use Rattle.theory.specs.Counting.{inRange}
 use Rattle.plan.specs.Rules.{lawful}
 use Rattle.plan.proofs.Kept.{Lawful, lawful-from, range-from}
 use Rattle.ready.specs.Calls.{Jobs, FrontBy, afterServe}

@@ -8,7 +8,7 @@ use Rattle.std.specs.Options.{isSome}
 use Rattle.std.specs.declared.option.Option.{Option}
 use Rattle.std.specs.declared.option.Option.the-variants.{Some, None}
 use Rattle.plan.specs.Content.{Content, tableCount, durationOf}
-use Rattle.plan.specs.Counting.{inRange}
+use Rattle.theory.specs.Counting.{inRange}
 use Rattle.ready.specs.Calls.{Jobs}
 use Rattle.board.specs.declared.records.TableState.{TableState}
 use Rattle.board.specs.declared.records.TableState.the-variants.{Stopped, Waiting, Running}

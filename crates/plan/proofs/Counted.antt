@@ -7,7 +7,7 @@ use native.Mathlib.Numerals.{add-one}
 use native.Mathlib.Omega.{arith}
 use Rattle.std.proofs.shelf.Tests.{and-parts, and-from, and-left, and-right, cases-eq, cases-bool, both-ways, cond-true, cond-false}
 use Rattle.std.proofs.shelf.Ways.{tells}
-use Rattle.plan.specs.Counting.{each, total, count, orElse, least}
+use Rattle.theory.specs.Counting.{each, total, count, orElse, least}
 
 pub total-more : (f : ℕ → ℕ) (n : ℕ) → total (n + 1) f ≡ total n f + f n
 total-more f n = ap (λ k. total k f) (add-one n)

@@ -7,7 +7,7 @@ use native.Mathlib.Omega.{arith}
 use lib.Dec.{eqb, leb, ltb}
 use Rattle.std.proofs.shelf.Tests.{and-parts, and-from, or-cases, or-left, or-right, leb-true, ltb-true, eqb-true, le-leb, lt-ltb, eq-eqb, cases-eq}
 use Rattle.plan.specs.Limits.{maxTables, maxDuration, maxPoints, maxTasksOfPoint, maxTasks}
-use Rattle.plan.specs.Counting.{inRange, each}
+use Rattle.theory.specs.Counting.{inRange, each}
 use Rattle.plan.specs.Content.{Content, tableCount, pointCount, taskCount, durationOf, tableOfPoint, positionOfPoint, taskAt, tableOf, pointsOf, tasksOf}
 use Rattle.plan.specs.Rules.{hyperperiodOf, goodName, after, tableRule, pointRule, taskRule, lawful}
 use Rattle.plan.proofs.Counted.{each-at, each-from}

@@ -16,7 +16,7 @@ use Rattle.plan.specs.declared.records.Table.{Table}
 use Rattle.plan.specs.declared.records.Point.{Point}
 use Rattle.plan.specs.declared.records.Task.{Task}
 use Rattle.plan.specs.Limits.{maxTables, maxDuration, maxPoints, maxTasksOfPoint, maxTasks}
-use Rattle.plan.specs.Counting.{total, count}
+use Rattle.theory.specs.Counting.{total, count}
 use Rattle.plan.specs.Content.{Content, holding, noTable, noPoint, noTask, tableCount, pointCount, taskCount, durationOf, tableOfPoint, positionOfPoint, taskAt, tableOf, pointsOf, tasksOf}
 use Rattle.plan.specs.Rules.{goodName, after, lawful}
 use Rattle.plan.specs.Entries.{Entry, setTable, setPoint, setDelay, setTask, ends, blank, pointsHere, tasksHere, durationHere, positionHere, firstRow, planRows, withPoint, added, tooSoon, unfinished, tooMany, outOfRange, notRising, overHyperperiod}

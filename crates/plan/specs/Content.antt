@@ -4,7 +4,7 @@ use mathlib.Core.Bool.{Bool}
 use Prim.Native.Nat.{ℕ}
 use lib.Dec.{eqb}
 use lib.ListN.{length, getD}
-use Rattle.plan.specs.Counting.{count}
+use Rattle.theory.specs.Counting.{count}
 use Rattle.plan.specs.declared.records.Table.{Table}
 use Rattle.plan.specs.declared.records.Point.{Point}
 use Rattle.plan.specs.declared.records.Task.{Task}

@@ -8,7 +8,7 @@ use Rattle.std.specs.declared.option.Option.the-variants.{Some, None}
 use Rattle.plan.specs.declared.faults.Row.{Row}
 use Rattle.plan.specs.declared.faults.Row.the-variants.{TooSoon, Unfinished, TooMany, OutOfRange, NotRising, Hyperperiod}
 use Rattle.plan.specs.Limits.{maxTables, maxDuration, maxPoints, maxTasksOfPoint, maxTasks}
-use Rattle.plan.specs.Counting.{inRange}
+use Rattle.theory.specs.Counting.{inRange}
 use Rattle.plan.specs.Content.{Content, holding, tableCount, pointCount, taskCount, durationOf, positionOfPoint, pointsOf, tasksOf}
 use Rattle.plan.specs.Rules.{hyperperiodOf, goodName}
 

@@ -1,5 +1,4 @@
 pub mod Limits
-pub mod Counting
 pub mod Content
 pub mod Rules
 pub mod Plans

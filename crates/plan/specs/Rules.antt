@@ -6,7 +6,7 @@ use Prim.Native.Nat.{ℕ, _-_, _*_, _/_, _%_, _<_, _≤_}
 use lib.Dec.{eqb, leb, ltb}
 use lib.ListN.{length, getD}
 use Rattle.plan.specs.Limits.{maxTables, maxDuration, maxPoints, maxTasksOfPoint, maxTasks, maxHyperperiod, nameLength, firstNameByte, lastNameByte}
-use Rattle.plan.specs.Counting.{inRange, each, total, least}
+use Rattle.theory.specs.Counting.{inRange, each, total, least}
 use Rattle.plan.specs.declared.records.Table.{Table}
 use Rattle.plan.specs.Content.{Content, noTable, tableCount, pointCount, taskCount, durationOf, tableOfPoint, positionOfPoint, taskAt, tableOf, pointsOf, tasksOf}
 

@@ -3,7 +3,7 @@ ghost use mathlib.Core.Path.{_≡_};
 ghost use lib.Dec.{eqb};
 ghost use lib.ListN.{length, getD};
 ghost use Rattle.plan.specs.Content.{noPoint, noTask};
-ghost use Rattle.plan.specs.Counting.{count};
+ghost use Rattle.theory.specs.Counting.{count};
 ghost use Rattle.plan.specs.Drafts.{drafted};
 ghost use Rattle.plan.specs.Entries.{blank, durationHere, pointsHere, positionHere, tasksHere, positionAfter};
 use crate::records::Point;

@@ -3,7 +3,7 @@ use Prim.Native.Nat.{_≤_}
 use lib.Dec.{eqb}
 use lib.ListN.{getD}
 use Rattle.plan.specs.Content.{noPoint}
-use Rattle.plan.specs.Counting.{count}
+use Rattle.theory.specs.Counting.{count}
 use Rattle.plan.proofs.drafts.points_of.Given as given
 
 abbrev pub Inv-loop-p : given.InvT-loop-p

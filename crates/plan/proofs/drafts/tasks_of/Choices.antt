@@ -3,7 +3,7 @@ use Prim.Native.Nat.{_≤_}
 use lib.Dec.{eqb}
 use lib.ListN.{getD}
 use Rattle.plan.specs.Content.{noTask}
-use Rattle.plan.specs.Counting.{count}
+use Rattle.theory.specs.Counting.{count}
 use Rattle.plan.proofs.drafts.tasks_of.Given as given
 
 abbrev pub Inv-loop-t : given.InvT-loop-t

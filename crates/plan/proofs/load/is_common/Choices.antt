@@ -2,7 +2,7 @@ use mathlib.Core.Bool.{true}
 use mathlib.Core.Path.{_≡_}
 use lib.ListN.{getD}
 use Rattle.plan.specs.Content.{noTable}
-use Rattle.plan.specs.Counting.{each}
+use Rattle.theory.specs.Counting.{each}
 use Rattle.plan.specs.Rules.{divides}
 use Rattle.plan.proofs.load.is_common.Given as given
 

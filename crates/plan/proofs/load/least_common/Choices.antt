@@ -1,6 +1,6 @@
 use mathlib.Core.Path.{_≡_}
 use Prim.Native.Nat.{_-_}
-use Rattle.plan.specs.Counting.{least}
+use Rattle.theory.specs.Counting.{least}
 use Rattle.plan.specs.Rules.{commonTo}
 use Rattle.plan.proofs.load.least_common.Given as given
 

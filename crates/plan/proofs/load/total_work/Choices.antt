@@ -1,7 +1,7 @@
 use mathlib.Core.Path.{_≡_}
 use Prim.Native.Nat.{_*_, _≤_}
 use Rattle.plan.specs.Content.{holding}
-use Rattle.plan.specs.Counting.{total}
+use Rattle.theory.specs.Counting.{total}
 use Rattle.plan.specs.Limits.{maxDuration, maxHyperperiod}
 use Rattle.plan.proofs.Work.{part}
 use Rattle.plan.proofs.load.total_work.Given as given

@@ -1,6 +1,6 @@
 use native.Mathlib.Omega.{arith}
 use lib.ListN.{getD}
-use Rattle.plan.specs.Counting.{inRange}
+use Rattle.theory.specs.Counting.{inRange}
 use Rattle.plan.specs.Limits.{firstNameByte, lastNameByte}
 use Rattle.plan.proofs.Counted.{each-more}
 use Rattle.plan.proofs.Kept.{range-to}

@@ -1,7 +1,7 @@
 use mathlib.Core.Bool.{true}
 use mathlib.Core.Path.{_≡_}
 use lib.ListN.{getD}
-use Rattle.plan.specs.Counting.{each, inRange}
+use Rattle.theory.specs.Counting.{each, inRange}
 use Rattle.plan.specs.Limits.{firstNameByte, lastNameByte}
 use Rattle.plan.proofs.rows.is_name.Given as given
 

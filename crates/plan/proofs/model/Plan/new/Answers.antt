@@ -5,7 +5,7 @@ use Rattle.plan.specs.declared.records.Table.{Table}
 use Rattle.plan.specs.declared.records.Point.{Point}
 use Rattle.plan.specs.declared.records.Task.{Task}
 use Rattle.plan.specs.Content.{holding}
-use Rattle.plan.specs.Counting.{least}
+use Rattle.theory.specs.Counting.{least}
 use Rattle.plan.specs.Rules.{lawful}
 use Rattle.plan.proofs.model.Plan.new.Needs as need
 
