@@ -1,6 +1,6 @@
 -- Calls with their answers, one after another on one board. Assumes nothing.
 use mathlib.Core.Path.{_≡_}
-use mathlib.Core.Bool.{Bool}
+use mathlib.Core.Bool.{Bool, true, false}
 use mathlib.Core.List.{List, [], _∷_}
 use Prim.Native.Nat.{ℕ}
 use lib.ListN.{length}
@@ -19,8 +19,8 @@ use Rattle.board.specs.Ticks.{tickRefusal, Ticked}
 
 -- a refused call says why and leaves the board as it was; any other gives its answer and leaves the board as said
 abbrev pub Did : Option CallRefusal → Model → Answer → Model → Answer → Model → Type 0
-Did None m yes′ after a n = (a ≡ yes′) × Alike n after
-Did (Some why) m yes′ after a n = (a ≡ told.Refused why) × Alike n m
+Did None m answer after a n = (a ≡ answer) × Alike n after
+Did (Some why) m answer after a n = (a ≡ told.Refused why) × Alike n m
 
 -- a call that is no tick
 abbrev pub Asked : Content → Model → Call → Answer → Model → Type 0
@@ -44,6 +44,13 @@ pub data Drive (c : Content) : Model → List (Call × Answer) → List Moment �
   answered : {m n z : Model} {front : Option Job} {a : TickAnswer} {calls : List (Call × Answer)} {moments : List Moment}
       → tickRefusal m ≡ None → Ticked c m front a n → Drive c n calls moments z
       → Drive c m ((Tick, told.Ticked a) ∷ calls) (record { board = m; front = front } ∷ moments) z
+
+-- the answer of an answered tick
+abbrev pub isTicked : Answer → Bool
+isTicked told.Done = false
+isTicked (told.Refused why) = false
+isTicked (told.State s) = false
+isTicked (told.Ticked a) = true
 
 -- one call of any kind
 abbrev pub Step : Content → Model → Call → Answer → Model → Type 0

@@ -1,11 +1,12 @@
 // A whole drive: calls on one new board, with their answers.
 ghost use mathlib.Core.Path.{_≡_};
+ghost use mathlib.Core.Bool.{false};
 ghost use mathlib.Core.List.{List};
 ghost use Rattle.plan.specs.Plans.{content};
 ghost use Rattle.std.specs.Of.Vec.{vec-items};
 ghost use Rattle.std.specs.Vec.{made};
 ghost use Rattle.board.specs.Boards.{model, Good};
-ghost use Rattle.board.specs.Drives.{Step, Driven};
+ghost use Rattle.board.specs.Drives.{Step, isTicked, Driven};
 ghost use Rattle.board.specs.Models.{Alike, fresh};
 use crate::boards::Board;
 use crate::calls::Answer;
@@ -19,6 +20,7 @@ impl<Q: ReadyQueue> Board<Q> {
     // Makes one call.
     pub fn call(&mut self, call: Call) -> Answer
         ensures answer { λ r. ⌜ (Good (Q·ReadyQueue .jobs) (Q·ReadyQueue .whole) (now (self .entry)) → Step (content (now (self .entry) .plan)) (model (Q·ReadyQueue .jobs) (Q·ReadyQueue .whole) (now (self .entry))) call r (model (Q·ReadyQueue .jobs) (Q·ReadyQueue .whole) (now (self .exit)))) ⌝ }
+        ensures queue { λ r. ⌜ (isTicked r ≡ false → now (self .exit) .waiting ≡ now (self .entry) .waiting) ⌝ }
         ensures plan { λ _. ⌜ now (self .exit) .plan ≡ now (self .entry) .plan ⌝ }
         ensures good { λ _. ⌜ (Good (Q·ReadyQueue .jobs) (Q·ReadyQueue .whole) (now (self .entry)) → Good (Q·ReadyQueue .jobs) (Q·ReadyQueue .whole) (now (self .exit))) ⌝ }
     {

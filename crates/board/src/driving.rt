@@ -1,7 +1,8 @@
 // The calls of a board that are no tick.
 ghost use mathlib.Core.Path.{_≡_};
+ghost use mathlib.Core.Bool.{false};
 ghost use Rattle.plan.specs.Plans.{content};
-ghost use Rattle.std.specs.Results.{Cases};
+ghost use Rattle.std.specs.Results.{Cases, isOk};
 ghost use Rattle.board.specs.Boards.{model, Good, Rest, ofDone, ofState};
 ghost use Rattle.board.specs.Drives.{Asked};
 ghost use Rattle.board.specs.Models.{Alike, fresh};
@@ -40,6 +41,7 @@ impl<Q: ReadyQueue> Board<Q> {
     // Starts a table: its round begins with the delay-th tick from now.
     pub fn start(&mut self, table: usize, delay: u32) -> Result<(), CallRefusal>
         ensures answer { λ r. ⌜ (Good (Q·ReadyQueue .jobs) (Q·ReadyQueue .whole) (now (self .entry)) → Asked (content (now (self .entry) .plan)) (model (Q·ReadyQueue .jobs) (Q·ReadyQueue .whole) (now (self .entry))) (Start table delay) (ofDone r) (model (Q·ReadyQueue .jobs) (Q·ReadyQueue .whole) (now (self .exit)))) ⌝ }
+        ensures refused { λ r. ⌜ (isOk r ≡ false → now (self .exit) ≡ now (self .entry)) ⌝ }
         ensures rest { λ _. ⌜ Rest (now (self .entry)) (now (self .exit)) ⌝ }
         ensures good { λ _. ⌜ (Good (Q·ReadyQueue .jobs) (Q·ReadyQueue .whole) (now (self .entry)) → Good (Q·ReadyQueue .jobs) (Q·ReadyQueue .whole) (now (self .exit))) ⌝ }
     {
@@ -69,6 +71,7 @@ impl<Q: ReadyQueue> Board<Q> {
     // Stops a table. Its jobs remain.
     pub fn stop(&mut self, table: usize) -> Result<(), CallRefusal>
         ensures answer { λ r. ⌜ (Good (Q·ReadyQueue .jobs) (Q·ReadyQueue .whole) (now (self .entry)) → Asked (content (now (self .entry) .plan)) (model (Q·ReadyQueue .jobs) (Q·ReadyQueue .whole) (now (self .entry))) (Stop table) (ofDone r) (model (Q·ReadyQueue .jobs) (Q·ReadyQueue .whole) (now (self .exit)))) ⌝ }
+        ensures refused { λ r. ⌜ (isOk r ≡ false → now (self .exit) ≡ now (self .entry)) ⌝ }
         ensures rest { λ _. ⌜ Rest (now (self .entry)) (now (self .exit)) ⌝ }
         ensures good { λ _. ⌜ (Good (Q·ReadyQueue .jobs) (Q·ReadyQueue .whole) (now (self .entry)) → Good (Q·ReadyQueue .jobs) (Q·ReadyQueue .whole) (now (self .exit))) ⌝ }
     {

@@ -29,7 +29,7 @@ impl TableState {
     }
 }
 
-// A point by its index; past the last one the first of a table.
+// A point by its index; past the last one position 0 of table 0.
 fn point_at(points: &[Point], index: usize) -> Point
     ensures { λ r. ⌜ r ≡ getD (now (points .entry)) index noPoint ⌝ }
 {

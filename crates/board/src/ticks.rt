@@ -1,6 +1,7 @@
 // One tick of a board.
 ghost use mathlib.Core.Path.{_≡_};
-ghost use Rattle.std.specs.declared.option.Option.the-variants.{Some, None};
+ghost use mathlib.Core.Bool.{false};
+ghost use Rattle.std.specs.Results.{isOk};
 ghost use Rattle.plan.specs.Plans.{content};
 ghost use Rattle.board.specs.Boards.{model, Good};
 ghost use Rattle.board.specs.Ticks.{DidTick};
@@ -15,6 +16,7 @@ impl<Q: ReadyQueue> Board<Q> {
     // Makes one tick, and tells the task served, its response if the job finished, and the lowest late task.
     pub fn tick(&mut self) -> Result<TickAnswer, CallRefusal>
         ensures answer { λ r. ⌜ (Good (Q·ReadyQueue .jobs) (Q·ReadyQueue .whole) (now (self .entry)) → DidTick (content (now (self .entry) .plan)) (model (Q·ReadyQueue .jobs) (Q·ReadyQueue .whole) (now (self .entry))) r (model (Q·ReadyQueue .jobs) (Q·ReadyQueue .whole) (now (self .exit)))) ⌝ }
+        ensures refused { λ r. ⌜ (isOk r ≡ false → now (self .exit) ≡ now (self .entry)) ⌝ }
         ensures plan { λ _. ⌜ now (self .exit) .plan ≡ now (self .entry) .plan ⌝ }
         ensures good { λ _. ⌜ (Good (Q·ReadyQueue .jobs) (Q·ReadyQueue .whole) (now (self .entry)) → Good (Q·ReadyQueue .jobs) (Q·ReadyQueue .whole) (now (self .exit))) ⌝ }
     {

@@ -60,7 +60,7 @@ count-some zero k p lt t = absurd (omega arith)
 count-some (suc n) k p lt t =
     ⊎-elim (λ e. omega (arith, ap (λ b. cond {A = ℕ} b 1 0) (subst (λ i. p i ≡ true) e t))) (λ ne. omega (arith, count-some n k p (omega arith) t)) (cases-eq k n)
 
-count-has : (n : ℕ) (p : ℕ → Bool) → 1 ≤ count n p → (k : ℕ) × (k < n) × (p k ≡ true)
+pub count-has : (n : ℕ) (p : ℕ → Bool) → 1 ≤ count n p → (k : ℕ) × (k < n) × (p k ≡ true)
 count-has zero p h = absurd (omega arith)
 count-has (suc n) p h =
     ⊎-elim (λ t. (n, le-refl (suc n), t)) (λ f. let r = count-has n p (omega (arith, ap (λ b. cond {A = ℕ} b 1 0) f)) in (r .0, omega (arith, r .1), r .2)) (cases-bool (p n))

@@ -42,7 +42,7 @@ module _ (file : List ℕ) where
       let i8 : a + 6 + 1 + 1 ≡ a + 8 = omega arith in
       let name = unroll 4 a (omega arith) in
       let all : part file at 10 ≡ 0x4A ∷ part file a 4 ++ byte (a + 4) ∷ byte (a + 4 + 1) ∷ byte (a + 6) ∷ byte (a + 6 + 1) ∷ byte (a + 8) ∷ [] = rw name (unroll 10 at le ∙ rw (i5, i6, i8, e)) in
-      (byte (a + 4), byte (a + 4 + 1), byte (a + 6), byte (a + 6 + 1), all, refl, refl)
+      (byte (a + 4), byte (a + 4 + 1), byte (a + 6), byte (a + 6 + 1), ap length name, all, refl, refl)
 
   -- the first byte decides: one test after the other, each where those before it failed
   first-is : (P : ℕ → Entry → Type 0) (b : ℕ) (t p d j e : Entry)

@@ -10,6 +10,7 @@ use Rattle.std.specs.declared.result.Result.the-variants.{Ok, Err}
 use Rattle.plan.specs.declared.faults.Row.{Row}
 use Rattle.plan.specs.declared.faults.Fault.{Fault}
 use Rattle.plan.specs.declared.faults.Fault.the-variants.{At, Memory}
+use Rattle.plan.specs.Limits.{nameLength}
 use Rattle.plan.specs.Content.{Content}
 use Rattle.plan.specs.Entries.{Entry, setTable, setPoint, setDelay, setTask, ends, blank, firstRow, planRows, added}
 use Rattle.plan.specs.File.{isEnd, rowsAt, blamed}
@@ -24,7 +25,7 @@ Spells (setTable d) bs = SpellsWord 0x54 d bs
 Spells (setPoint p) bs = SpellsWord 0x50 p bs
 Spells (setDelay n) bs = SpellsWord 0x44 n bs
 Spells (setTask name e d l) bs =
-    (eh : ℕ) × (el : ℕ) × (dh : ℕ) × (dl : ℕ)
+    (eh : ℕ) × (el : ℕ) × (dh : ℕ) × (dl : ℕ) × (length name ≡ nameLength)
     × (bs ≡ 0x4A ∷ name ++ eh ∷ el ∷ dh ∷ dl ∷ l ∷ []) × (e ≡ eh * 256 + el) × (d ≡ dh * 256 + dl)
 Spells ends bs = bs ≡ 0x45 ∷ []
 

@@ -56,7 +56,7 @@ pointRule c j =
     && (eqb j 0 || after c (j - 1) j)
     && inRange 1 maxTasksOfPoint (tasksOf c j)
 
--- a task's point is not before that of the task before it, and 1 ≤ execution ≤ deadline ≤ duration
+-- a task's point is not before that of the task before it, and 1 ≤ execution ≤ deadline ≤ duration; a priority is a byte
 abbrev pub taskRule : Content → ℕ → Bool
 taskRule c k =
     ltb (taskAt c k .point) (pointCount c)

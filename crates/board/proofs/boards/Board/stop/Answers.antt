@@ -1,5 +1,7 @@
 use mathlib.Core.Path.{refl}
 use borrow.Author.Needs.{needs}
+use Rattle.std.proofs.shelf.Tests.{both-ways}
+use mathlib.Core.Bool.{true}
 use Rattle.plan.specs.Plans.{content}
 use Rattle.board.specs.declared.boards.Board.{Board}
 use Rattle.board.specs.declared.calls.Answer.the-variants as told
@@ -22,4 +24,4 @@ same : (g : given.Over) (c : After-stop g) → Rest (c .args .self .now) (after 
 same g c = record { plan = refl; waiting = refl; ticks = refl; late = refl }
 
 pub returns : need.returns
-returns g c = record { answer = done g c; rest = same g c; good = λ h. good-after (g .Q·ReadyQueue .jobs) (g .Q·ReadyQueue .whole) (c .args .self .now) (after g c) (Stop (c .args .table)) told.Done h (same g c) (done g c h) }
+returns g c = record { answer = done g c; refused = λ no-ok. absurd (both-ways true no-ok refl); rest = same g c; good = λ h. good-after (g .Q·ReadyQueue .jobs) (g .Q·ReadyQueue .whole) (c .args .self .now) (after g c) (Stop (c .args .table)) told.Done h (same g c) (done g c h) }

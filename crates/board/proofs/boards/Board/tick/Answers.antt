@@ -4,6 +4,8 @@ use native.Mathlib.Omega.{arith}
 use borrow.Author.Needs.{needs}
 use Rattle.std.specs.Options.{isSome}
 use Rattle.std.specs.declared.option.Option.the-variants.{None}
+use Rattle.std.proofs.shelf.Tests.{both-ways}
+use mathlib.Core.Bool.{true}
 use Rattle.plan.specs.Plans.{content}
 use Rattle.board.specs.Boards.{model, Good}
 use Rattle.board.specs.Models.{maxTicks}
@@ -40,6 +42,7 @@ returns g c =
             tick-made p (b .plan .kept) m (h .sound) (may .0) (recordOf (c .turn-all .last .self .records)) (c .turn-all .ensures) (jobs q₁) (c .activate-due .ensures .jobs (h .queue)) (g .Q·ReadyQueue .top q₁) (g .Q·ReadyQueue·met .fronts q₁ w₁) (jobs q₂) (c .serve-served .ensures .jobs w₁) (c .first-late-late .result) (c .first-late-late .ensures w₂ n₂)
                 (c .new .result) (c .new .ensures ∙ ap (λ o. tickAnswer o (b .ticks + 1) (c .first-late-late .result)) (c .serve-served .ensures .answer w₁)),
           );
+      refused = λ no-ok. absurd (both-ways true no-ok refl);
       plan = refl;
       good = λ h.
           let w₁ = c .activate-due .ensures .whole (h .queue) in
