@@ -1,0 +1,4 @@
+pub mod LawfulPlans
+pub mod BoardRuns
+pub mod OnTime
+pub mod InTime
