@@ -1,20 +1,17 @@
 -- Drives keep the laws that the theory supposes. Assumes nothing.
-use Rattle.std.proofs.Common.{◌≡◌, ℕ, zero, suc, ◌+◌, ◌-◌, ◌<◌, ◌≤◌, Bool, true, false, cond, ◌&&◌, ◌||◌, eqb, ltb, leb, ◌⊎◌, List, [], ◌∷◌, length, Some, None, Option, sym, refl, ap, ◌∙◌, subst, inl, inr, ⊎_elim, arith}
-use Rattle.std.proofs.lemmas.Bool.{and_parts, and_from, lt-ltb, ltb-true, ltb-false, eqb-true, eq-eqb, ne_eqb, both_ways}
-use Rattle.theory.specs.Runs.{Run, Rounds, Serves, Front, Idle, Stays, activated, holds, born}
-use Rattle.theory.specs.Runs as theory
-use Rattle.plan.specs.Content.{Content, table_count, task_count, duration_of, table_of, position_of, task_at}
+use Rattle.std.proofs.Common.{◌≡◌, ℕ, zero, suc, ◌-◌, ◌<◌, ◌≤◌, Bool, true, false, cond, ◌&&◌, ◌||◌, eqb, ltb, ◌⊎◌, List, [], ◌∷◌, length, Some, None, Option, sym, refl, ap, ◌∙◌, subst, inl, inr, ⊎_elim, arith}
+use Rattle.std.proofs.lemmas.Bool.{and_parts, lt-ltb, ltb-true, ltb-false, eqb-true, eq-eqb, ne_eqb}
+use Rattle.theory.specs.Runs.{Front, Idle, Stays, activated, holds, born}
+use Rattle.plan.specs.Content.{Content, task_count, task_at}
 use Rattle.plan.specs.Rules.{lawful}
 use Rattle.plan.proofs.Kept.{lawful_from}
-use Rattle.ready.specs.Calls.{Jobs, FrontBy, after_serve}
+use Rattle.ready.specs.Calls.{FrontBy}
 use Rattle.ready.specs.Jobs.{ahead, ticked}
 use Rattle.ready.specs.declared.job.Job.{Job}
-use Rattle.board.specs.declared.calls.Call.{Call}
-use Rattle.board.specs.declared.calls.Answer.{Answer}
-use Rattle.board.specs.Models.{Model, fresh}
-use Rattle.board.specs.Ticks.{turned_tables, runs_at, activates, new_job, with_activated, with_served}
-use Rattle.board.specs.Drives.{Moment, Drive}
-use Rattle.board.specs.Laws.{no_moment, moment_of, board_at, RunsIn, RoundsOf, ServiceOf}
+use Rattle.board.specs.Models.{Model}
+use Rattle.board.specs.Ticks.{turned_tables, activates, new_job, with_activated, with_served}
+use Rattle.board.specs.Drives.{Moment}
+use Rattle.board.specs.Laws.{moment_of, board_at, ServiceOf}
 use Rattle.board.proofs.RunLaws.{rounds}
 use Rattle.board.proofs.Notes.{served_from}
 use Rattle.board.proofs.ServiceLaw.{service}
@@ -51,12 +48,12 @@ module _ (c : Content) (kept : lawful c ≡ true) where
 
   known_served : (m : Model) (front : Option Job) → FrontBy ahead (with_activated c m) front → ((k : ℕ) (j : Job) → m.jobs k ≡ Some j → Known c k j) → (k : ℕ) (j : Job) → with_served c m front k ≡ Some j → Known c k j
   known_served m None f h k j e = known_active m h k j e
-  known_served m (Some f) x h k j e = go (eqb k f.task) refl (ltb 0 (ticked f).left) refl e
+  known_served m (Some f) x h k j e = go (eqb f.task k) refl (ltb 0 (ticked f).left) refl e
     where
-      go : (b : Bool) → eqb k f.task ≡ b → (l : Bool) → ltb 0 (ticked f).left ≡ l → cond b (cond l (Some (ticked f)) None) (with_activated c m k) ≡ Some j → Known c k j
+      go : (b : Bool) → eqb f.task k ≡ b → (l : Bool) → ltb 0 (ticked f).left ≡ l → cond b (cond l (Some (ticked f)) None) (with_activated c m k) ≡ Some j → Known c k j
       go true q true r y =
           let w = known_active m h f.task f x.0 in
-          let same = eqb-true k f.task q in
+          let same = sym (eqb-true f.task k q) in
           subst (Known c k) (some_same _ _ y) (subst (λ i. Known c i (ticked f)) (sym same) (record { task = w.task; number = refl; priority = w.priority; some = ltb-true 0 _ r }))
       go true q false r y = absurd (none_some y)
       go false q l r y = known_active m h k j y
@@ -142,7 +139,7 @@ module _ (c : Content) (kept : lawful c ≡ true) where
                   ahead_is pk pf bk bf (x.1 k i.0 i.1);
             },
             ap suc (after_is t ∙ ap (λ o. left_of (with_served c here o t)) e ∙ here_served) ∙ left_less f w.some _ refl ∙ sym (holds_is t w.task ∙ ap left_of x.0),
-            λ k lt ne. after_is k ∙ ap (λ o. left_of (with_served c here o k)) e ∙ rw (ne_eqb k t ne) (sym (holds_is k lt)),
+            λ k lt ne. after_is k ∙ ap (λ o. left_of (with_served c here o k)) e ∙ rw (ne_eqb t k (λ h. ne (sym h))) (sym (holds_is k lt)),
           )
         where
           here_served : left_of (with_served c here (Some f) f.task) ≡ left_of (cond (ltb 0 (f.left - 1)) (Some (ticked f)) None)

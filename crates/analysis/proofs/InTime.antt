@@ -1,12 +1,12 @@
 -- On a plan that passes every job is reported finished within its figure. Assumes nothing.
-use Rattle.std.proofs.Common.{◌≡◌, ℕ, zero, suc, ◌+◌, ◌-◌, ◌<◌, ◌≤◌, Bool, true, false, cond, eqb, ltb, List, [], ◌∷◌, length, get_or, Some, None, Option, sym, refl, ap, ◌∙◌, subst, ⊎_elim, arith}
-use Rattle.std.proofs.lemmas.Bool.{eqb-true, eq-eqb, ltb-false, cases_Bool, both_ways, cases_eq}
+use Rattle.std.proofs.Common.{◌≡◌, ℕ, zero, suc, ◌+◌, ◌-◌, ◌<◌, ◌≤◌, Bool, true, false, cond, eqb, ltb, List, ◌∷◌, length, get_or, Some, None, Option, sym, refl, ap, ◌∙◌, subst, ⊎_elim, arith}
+use Rattle.std.proofs.lemmas.Bool.{eqb-true, eq-eqb, cases_Bool, cases_eq}
 use Rattle.std.specs.Option.{option_map}
 use Rattle.theory.specs.Runs.{Takes, activated, holds, born}
 use Rattle.theory.specs.Theorems.{Sound}
 use Rattle.theory.proofs.Safety.{safe}
 use Rattle.theory.proofs.Jobs.{service_drains_lem}
-use Rattle.plan.specs.Content.{Content, task_count, task_at}
+use Rattle.plan.specs.Content.{Content, task_count}
 use Rattle.plan.specs.Rules.{lawful}
 use Rattle.plan.proofs.Kept.{lawful_from}
 use Rattle.ready.specs.Calls.{FrontBy}
@@ -16,18 +16,17 @@ use Rattle.board.specs.declared.calls.Call.{Call}
 use Rattle.board.specs.declared.calls.Call.TheVariants.{Start, Stop, State, Tick}
 use Rattle.board.specs.declared.calls.CallRefusal.{CallRefusal}
 use Rattle.board.specs.declared.calls.Answer.{Answer}
-use Rattle.board.specs.declared.calls.Answer.TheVariants as told
 use Rattle.board.specs.declared.calls.TickAnswer.{TickAnswer}
-use Rattle.board.specs.Models.{Model, fresh, start_refusal, stop_refusal, state_refusal, started, stopped}
+use Rattle.board.specs.Models.{Model, start_refusal, stop_refusal, state_refusal, started, stopped}
 use Rattle.board.specs.Refusals.{tick_answer}
 use Rattle.board.specs.Ticks.{turned_tables, activates, late_task, with_activated, with_served}
 use Rattle.board.specs.Drives.{Did, Asked, Moment, Drive, done, asked, idled, answered}
-use Rattle.board.specs.Laws.{moment_of, board_at, ServiceOf}
+use Rattle.board.specs.Laws.{moment_of, ServiceOf}
 use Rattle.board.proofs.ServiceLaw.{service}
 use Rattle.analysis.specs.Bridge.{plan_of, run_of, left_of, since_of}
-use Rattle.analysis.specs.Promises.{ticked_first, ticks_of, nothing, Finishes, Reported, HeldToFigures}
+use Rattle.analysis.specs.Promises.{ticked_first, ticks_of, nothing, Reported, HeldToFigures}
 use Rattle.analysis.proofs.LawfulPlans.{plans_are_lawful_lem}
-use Rattle.analysis.proofs.BoardRuns.{Known, known, board_moment, here, active_is, holds_is, born_is, known_now, after_is, left_less, drives_are_runs_lem}
+use Rattle.analysis.proofs.BoardRuns.{board_moment, active_is, holds_is, born_is, known_now, after_is, left_less, drives_are_runs_lem}
 
 -- the answers of calls that are no tick are passed over
 did_skips : (o : Option CallRefusal) (m after n : Model) (y a : Answer) (rest : List TickAnswer) → ticked_first y rest ≡ rest → Did o m y after a n → ticked_first a rest ≡ rest
@@ -93,14 +92,14 @@ module _ (c : Content) (kept : lawful c ≡ true) (moments : List Moment) (z : M
 
       by : (o : Option Job) → (moment_of moments υ).front ≡ o → FrontBy ahead (with_activated c (moment_of moments υ).board) o → Last υ t
       by None e x = absurd (omega (arith, had, ap left_of (x t)))
-      by (Some f) e x = go (eqb t f.task) refl
+      by (Some f) e x = go (eqb f.task t) refl
         where
           after : left_of (with_served c (moment_of moments υ).board (Some f) t) ≡ 0
           after = ap (λ o. left_of (with_served c (moment_of moments υ).board o t)) (sym e) ∙ sym (after_is c kept moments z s υ l t) ∙ gone
 
-          go : (b : Bool) → eqb t f.task ≡ b → Last υ t
+          go : (b : Bool) → eqb f.task t ≡ b → Last υ t
           go true q =
-              let same = eqb-true t f.task q in
+              let same = sym (eqb-true f.task t q) in
               let w = known_now c kept moments z s υ l f.task f x.0 in
               let gone' : left_of (cond (ltb 0 (f.left - 1)) (Some (ticked f)) None) ≡ 0 = rw q at after in
               record {
@@ -120,8 +119,8 @@ module _ (c : Content) (kept : lawful c ≡ true) (moments : List Moment) (z : M
       by None a b = absurd (none_num a)
       by (Some f) a b = go (ltb 0 (f.left - 1)) refl b
         where
-          same : eqb t f.task ≡ true
-          same = eq-eqb t f.task (sym (some_num _ _ a))
+          same : eqb f.task t ≡ true
+          same = eq-eqb f.task t (some_num _ _ a)
 
           go : (x : Bool) → ltb 0 (f.left - 1) ≡ x → cond x None (Some ((moment_of moments υ).board.ticks + 1 - f.activation)) ≡ Some n → left_of (with_served c (moment_of moments υ).board (Some f) t) ≡ 0
           go true e y = absurd (none_num y)

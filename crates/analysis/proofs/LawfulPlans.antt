@@ -1,13 +1,10 @@
 -- Plans keep the rules that the theory supposes. Assumes nothing.
-use Rattle.std.proofs.Common.{◌≡◌, ℕ, ◌<◌, ◌≤◌, true, eqb, sym, refl, ap, ◌∙◌, subst, arith}
+use Rattle.std.proofs.Common.{eqb, ap, ◌∙◌}
 use Rattle.std.proofs.lemmas.Bool.{eqb-true}
-use Rattle.theory.specs.Plans.{Lawful}
-use Rattle.plan.specs.Content.{Content, table_count, point_count, task_count, table_of, table_of_point, task_at}
-use Rattle.plan.specs.Rules.{lawful}
+use Rattle.plan.specs.Content.{point_count, task_count, table_of_point, task_at}
 use Rattle.plan.proofs.Kept.{lawful_from}
 use Rattle.plan.proofs.Setting.{count_has}
 use Rattle.plan.proofs.Work.{hyperperiod_law}
-use Rattle.analysis.specs.Bridge.{plan_of}
 use Rattle.analysis.specs.Promises.{PlansAreLawful}
 
 pub plans_are_lawful_lem : PlansAreLawful

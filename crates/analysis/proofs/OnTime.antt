@@ -1,6 +1,6 @@
 -- On a plan that passes no tick of a drive tells a late task. Assumes nothing.
-use Rattle.std.proofs.Common.{◌≡◌, ℕ, zero, suc, ◌+◌, ◌<◌, ◌≤◌, Bool, true, false, leb, List, [], ◌∷◌, length, Some, None, Option, sym, refl, ap, ◌∙◌, subst, ⊎_elim, arith}
-use Rattle.std.proofs.lemmas.Bool.{leb-true, cases_Bool, both_ways}
+use Rattle.std.proofs.Common.{◌≡◌, ℕ, zero, suc, ◌+◌, ◌<◌, Bool, true, false, leb, List, length, Some, None, Option, sym, refl, ap, ◌∙◌, subst, ⊎_elim, arith}
+use Rattle.std.proofs.lemmas.Bool.{leb-true, cases_Bool}
 use Rattle.theory.specs.Theorems.{Sound}
 use Rattle.theory.proofs.Safety.{safe}
 use Rattle.theory.proofs.Jobs.{service_drains_lem}
@@ -11,9 +11,9 @@ use Rattle.board.specs.declared.calls.Call.{Call}
 use Rattle.board.specs.declared.calls.Call.TheVariants.{Start, Stop, State, Tick}
 use Rattle.board.specs.declared.calls.CallRefusal.{CallRefusal}
 use Rattle.board.specs.declared.calls.Answer.{Answer}
-use Rattle.board.specs.Models.{Model, fresh, start_refusal, stop_refusal, state_refusal, started, stopped}
+use Rattle.board.specs.Models.{Model, start_refusal, stop_refusal, state_refusal, started, stopped}
 use Rattle.board.specs.Refusals.{tick_answer}
-use Rattle.board.specs.Ticks.{first_below, or_this, past_due, late_task, with_served, Ticked}
+use Rattle.board.specs.Ticks.{first_below, past_due, late_task, with_served}
 use Rattle.board.specs.Waits.{activation_of}
 use Rattle.board.specs.Drives.{Did, Asked, Moment, Drive, done, asked, idled, answered}
 use Rattle.board.specs.Laws.{moment_of, board_at, ServiceOf}
@@ -21,7 +21,7 @@ use Rattle.board.proofs.ServiceLaw.{service}
 use Rattle.analysis.specs.Bridge.{plan_of, run_of, left_of, since_of}
 use Rattle.analysis.specs.Promises.{Timely, AllTimely, NeverLate}
 use Rattle.analysis.proofs.LawfulPlans.{plans_are_lawful_lem}
-use Rattle.analysis.proofs.BoardRuns.{Known, known, board_moment, drives_are_runs_lem}
+use Rattle.analysis.proofs.BoardRuns.{known, board_moment, drives_are_runs_lem}
 
 -- nothing passes
 none_below : (p : ℕ → Bool) (n : ℕ) → ((k : ℕ) → k < n → p k ≡ false) → first_below n p ≡ None

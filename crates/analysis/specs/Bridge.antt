@@ -1,5 +1,5 @@
 -- A plan and a drive as the theory sees them: plain functions of an index. Assumes nothing.
-use Rattle.std.specs.Prelude.{ℕ, Bool, ◌&&◌, List, length, Some, None, Option, nat_lt}
+use Rattle.std.specs.Prelude.{ℕ, ◌&&◌, List, length, Some, None, Option, nat_lt}
 use Rattle.theory.specs.Plans.{Plan}
 use Rattle.theory.specs.Runs.{Run}
 use Rattle.plan.specs.Content.{Content, table_count, task_count, duration_of, table_of, position_of, task_at}

@@ -1,4 +1,6 @@
 // What the analysis of a plan rests on: the board's drives are runs in the sense of the theory.
+#![tactic(auto)]
+
 mod bridge;
 
 pub use bridge::{

@@ -1,9 +1,9 @@
 -- Activating the tasks that are due, one after another. Assumes nothing.
-use Rattle.std.proofs.Common.{◌≡◌, ℕ, zero, suc, ◌+◌, ◌<◌, ◌≤◌, Bool, true, false, cond, ◌&&◌, eqb, ltb, List, length, get_or, Some, None, Option, sym, refl, ap, ◌∙◌, subst, ⊎_elim, add-one, arith}
-use Rattle.std.proofs.lemmas.Bool.{cases_Bool, cases_lt, cases_eq, and_from, and_left, and_parts, lt-ltb, le-ltb, ltb-true, eq-eqb, ne_eqb, eqb-true, eqb-false, both_ways}
+use Rattle.std.proofs.Common.{◌≡◌, ℕ, zero, suc, ◌+◌, ◌<◌, Bool, true, false, cond, ◌&&◌, eqb, ltb, List, length, get_or, Some, None, Option, sym, refl, ap, ◌∙◌, subst, ⊎_elim, add-one, arith}
+use Rattle.std.proofs.lemmas.Bool.{cases_lt, cases_eq, and_from, lt-ltb, le-ltb, eq-eqb, ne_eqb}
 use Rattle.plan.specs.declared.records.Point.{Point}
 use Rattle.plan.specs.declared.records.Task.{Task}
-use Rattle.plan.specs.Content.{Content, no_point, no_task, task_count, task_at, table_of, position_of}
+use Rattle.plan.specs.Content.{Content, no_point, no_task, task_count, task_at}
 use Rattle.plan.specs.Limits.{max_tasks}
 use Rattle.plan.specs.Rules.{lawful}
 use Rattle.plan.proofs.Kept.{lawful_from}
@@ -12,7 +12,7 @@ use Rattle.ready.specs.Jobs.{fit}
 use Rattle.ready.specs.declared.job.Job.{Job}
 use Rattle.board.specs.declared.records.TableRecord.{TableRecord}
 use Rattle.board.specs.Waits.{Noted}
-use Rattle.board.specs.Ticks.{runs_at, activates, new_job, or_this, first_below}
+use Rattle.board.specs.Ticks.{runs_at, activates, new_job, first_below}
 
 same_side : (t k : ℕ) → (t ≡ k → ⊥) → ltb t k ≡ ltb t (k + 1)
 same_side t k ne = ⊎_elim (λ lt. lt-ltb t k lt ∙ sym (lt-ltb t (k + 1) (omega arith))) (λ le. le-ltb t k le ∙ sym (le-ltb t (k + 1) (omega arith))) (cases_lt t k)

@@ -1,5 +1,5 @@
 -- A call that is no tick keeps what every board keeps. Assumes nothing.
-use Rattle.std.proofs.Common.{◌≡◌, ℕ, ◌≤◌, Some, None, Option, sym, refl, ap, ◌∙◌, subst, subst₂}
+use Rattle.std.proofs.Common.{◌≡◌, ◌≤◌, Some, None, Option, sym, refl, subst}
 use Rattle.plan.specs.Content.{Content}
 use Rattle.plan.specs.Plans.{content}
 use Rattle.ready.specs.Calls.{Jobs}

@@ -1,11 +1,11 @@
 -- Every call keeps a board sound, and no activated task has a job while none is late. Assumes nothing.
-use Rattle.std.proofs.Common.{◌≡◌, ℕ, zero, suc, ◌+◌, ◌-◌, ◌<◌, ◌≤◌, Bool, true, false, cond, not, ◌&&◌, eqb, ltb, leb, List, [], ◌∷◌, is_some, Some, None, Option, sym, refl, ap, ◌∙◌, subst, ⊎_elim, le_refl, arith}
-use Rattle.std.proofs.lemmas.Bool.{and_parts, not-false, leb-true, leb-false, ltb-true, ltb-false, eqb-true, eqb-false, cases_eq, cases_lt, both_ways}
+use Rattle.std.proofs.Common.{◌≡◌, ℕ, zero, suc, ◌+◌, ◌<◌, ◌≤◌, Bool, true, false, cond, not, eqb, ltb, leb, List, [], ◌∷◌, is_some, Some, None, Option, sym, refl, ap, subst, ⊎_elim, le_refl, arith}
+use Rattle.std.proofs.lemmas.Bool.{and_parts, not-false, leb-false, ltb-true, ltb-false, eqb-true, cases_eq, both_ways}
 use Rattle.plan.specs.Content.{Content, table_count, task_count, duration_of, table_of, position_of, task_at}
 use Rattle.theory.specs.Counting.{in_range}
 use Rattle.plan.specs.Rules.{lawful}
 use Rattle.plan.proofs.Kept.{Lawful, lawful_from, range_from}
-use Rattle.ready.specs.Calls.{Jobs, FrontBy, after_serve}
+use Rattle.ready.specs.Calls.{FrontBy}
 use Rattle.ready.specs.Jobs.{ahead, ticked}
 use Rattle.ready.specs.declared.job.Job.{Job}
 use Rattle.board.specs.declared.records.TableState.{TableState}
@@ -14,9 +14,9 @@ use Rattle.board.specs.declared.records.TableRecord.{TableRecord}
 use Rattle.board.specs.declared.calls.CallRefusal.{CallRefusal}
 use Rattle.board.specs.declared.calls.CallRefusal.TheVariants.{LateBoard, NoTable, NotStopped, NotStarted, BadDelay, TooEarly, ClockFull}
 use Rattle.board.specs.Models.{Model, Alike, fresh, max_delay, max_ticks, is_stopped, first_reason, beginning, start_refusal, stop_refusal, started, stopped, with_table}
-use Rattle.board.specs.Ticks.{tick_refusal, turned, turned_state, turned_tables, activates, runs_at, new_job, with_activated, with_served, past_due, or_this, first_below, late_task, after_tick}
+use Rattle.board.specs.Ticks.{tick_refusal, turned_state, turned_tables, activates, new_job, with_activated, with_served, past_due, or_this, first_below, after_tick}
 use Rattle.board.specs.Waits.{activation_of}
-use Rattle.board.specs.Soundness.{TableSound, Spaced, JobSound, Sound}
+use Rattle.board.specs.Soundness.{TableSound, Spaced, Sound}
 use Rattle.board.proofs.Spacing.{turn_sound, turn_spaced, clash, new_spaced, stop_spaced, start_spaced}
 
 -- boards that mean the same are the same model
@@ -237,12 +237,12 @@ module _ (c : Content) (kept : lawful c ≡ true) (m : Model) (h : Sound c m) (o
       where
         by : (f : Option Job) → FrontBy ahead (with_activated c m) f → (k : ℕ) (j : Job) → with_served c m f k ≡ Some j → Midway k j
         by None x k j e = activated_midway k j e
-        by (Some f) x k j e = go (eqb k f.task) refl (ltb 0 (ticked f).left) refl e
+        by (Some f) x k j e = go (eqb f.task k) refl (ltb 0 (ticked f).left) refl e
           where
-            go : (b : Bool) → eqb k f.task ≡ b → (l : Bool) → ltb 0 (ticked f).left ≡ l → cond b (cond l (Some (ticked f)) None) (with_activated c m k) ≡ Some j → Midway k j
+            go : (b : Bool) → eqb f.task k ≡ b → (l : Bool) → ltb 0 (ticked f).left ≡ l → cond b (cond l (Some (ticked f)) None) (with_activated c m k) ≡ Some j → Midway k j
             go true q true r y =
                 subst (Midway k) (some_same _ _ y)
-                (subst (λ i. Midway i (ticked f)) (sym (eqb-true k f.task q)) (ticked_midway f (ltb-true 0 _ r) (activated_midway f.task f x.0)))
+                (subst (λ i. Midway i (ticked f)) (eqb-true f.task k q) (ticked_midway f (ltb-true 0 _ r) (activated_midway f.task f x.0)))
             go true q false r y = absurd (none_some y)
             go false q l r y = activated_midway k j y
 

@@ -1,9 +1,9 @@
 -- The note of activation ticks stays right over puts and serves. Assumes nothing.
-use Rattle.std.proofs.Common.{◌≡◌, ℕ, ◌<◌, Bool, true, false, cond, eqb, ltb, List, length, get_or, set, is_some, is_ok, Some, None, Ok, Err, Option, Result, sym, refl, ap, ◌∙◌, subst, ⊎_elim, arith}
+use Rattle.std.proofs.Common.{◌≡◌, ℕ, ◌<◌, Bool, true, false, cond, eqb, ltb, List, length, get_or, set, is_some, is_ok, Some, None, Ok, Err, Option, Result, sym, refl, ap, ◌∙◌, subst, arith}
 use Rattle.std.proofs.lemmas.List.{get_or-set_same, get_or-set_other}
-use Rattle.std.proofs.lemmas.Bool.{cases_Bool, eqb-true, eqb-false, both_ways}
-use Rattle.std.specs.Map.{update}
-use Rattle.ready.specs.Jobs.{ahead, fit, ticked, remaining}
+use Rattle.std.proofs.lemmas.Bool.{eqb-true, eqb-false, both_ways}
+use Rattle.std.proofs.lemmas.Bool.Decides.{nat_tests}
+use Rattle.ready.specs.Jobs.{ahead, fit, ticked}
 use Rattle.ready.specs.Refusals.{told}
 use Rattle.ready.specs.Calls.{Jobs, FrontBy, put_number, after_put, after_serve}
 use Rattle.ready.specs.declared.job.Job.{Job}
@@ -26,10 +26,10 @@ noted_tells js since t h s = go (js t) refl s
 -- a job that is there after a serve was there before it, with the same activation
 pub served_from : (js : Jobs) (front : Option Job) (t : ℕ) (j : Job) → FrontBy ahead js front → after_serve js front t ≡ Some j → (i : Job) × (js t ≡ Some i) × (j.activation ≡ i.activation)
 served_from js None t j f e = (j, e, refl)
-served_from js (Some i) t j f e = go (eqb t i.task) refl (ltb 0 (ticked i).left) e
+served_from js (Some i) t j f e = go (eqb i.task t) refl (ltb 0 (ticked i).left) e
   where
-    go : (b : Bool) → eqb t i.task ≡ b → (l : Bool) → cond b (cond l (Some (ticked i)) None) (js t) ≡ Some j → (k : Job) × (js t ≡ Some k) × (j.activation ≡ k.activation)
-    go true q true x = (i, subst (λ n. js n ≡ Some i) (sym (eqb-true _ _ q)) f.0, sym (ap (λ k. k.activation) (some_same _ _ x)))
+    go : (b : Bool) → eqb i.task t ≡ b → (l : Bool) → cond b (cond l (Some (ticked i)) None) (js t) ≡ Some j → (k : Job) × (js t ≡ Some k) × (j.activation ≡ k.activation)
+    go true q true x = (i, subst (λ n. js n ≡ Some i) (eqb-true _ _ q) f.0, sym (ap (λ k. k.activation) (some_same _ _ x)))
     go true q false x = absurd (none_some j x)
     go false q l x = (j, x, refl)
 
@@ -40,7 +40,7 @@ noted_served js ks since front f is h t j e =
 
 -- a put that is not refused
 pub put_free : (js : Jobs) (j : Job) (t : ℕ) → put_number js j ≡ None → after_put js j t ≡ cond (eqb t j.task) (Some j) (js t)
-put_free js j t e = rw e
+put_free js j t e = rw e (grind (arith, nat_tests))
 
 pub free_number : (js : Jobs) (j : Job) → fit j ≡ true → js j.task ≡ None → put_number js j ≡ None
 free_number js j f n = rw (f, n)

@@ -1,5 +1,5 @@
 -- The law of rounds, by induction over the calls of a drive. Assumes nothing.
-use Rattle.std.proofs.Common.{◌≡◌, ℕ, zero, suc, ◌+◌, ◌-◌, ◌<◌, ◌≤◌, Bool, true, false, cond, eqb, ltb, ◌⊎◌, List, [], ◌∷◌, length, get_or, Some, None, Option, sym, refl, ap, ◌∙◌, subst, inl, inr, ⊎_elim, arith}
+use Rattle.std.proofs.Common.{◌≡◌, ℕ, zero, suc, ◌+◌, ◌-◌, ◌<◌, ◌≤◌, Bool, true, false, cond, eqb, ltb, ◌⊎◌, List, ◌∷◌, length, Some, None, Option, sym, refl, ap, ◌∙◌, subst, inl, inr, ⊎_elim, arith}
 use Rattle.std.proofs.lemmas.Bool.{eqb-true, eq-eqb, both_ways}
 use Rattle.plan.specs.Content.{Content, table_count, duration_of}
 use Rattle.plan.specs.Rules.{lawful}
@@ -12,12 +12,12 @@ use Rattle.board.specs.declared.calls.Call.{Call}
 use Rattle.board.specs.declared.calls.Call.TheVariants.{Start, Stop, State, Tick}
 use Rattle.board.specs.declared.calls.CallRefusal.{CallRefusal}
 use Rattle.board.specs.declared.calls.Answer.{Answer}
-use Rattle.board.specs.Models.{Model, Alike, fresh, start_refusal, stop_refusal, state_refusal, started, stopped, with_table, beginning}
-use Rattle.board.specs.Ticks.{tick_refusal, turned, turned_state, begun, turned_tables, runs_at, after_tick, Ticked}
+use Rattle.board.specs.Models.{Model, start_refusal, stop_refusal, state_refusal, started, stopped, with_table, beginning}
+use Rattle.board.specs.Ticks.{tick_refusal, turned_state, begun, turned_tables, runs_at, Ticked}
 use Rattle.board.specs.Soundness.{TableSound, Spaced, Sound}
 use Rattle.board.specs.Drives.{Did, Asked, Moment, Drive, done, asked, idled, answered}
-use Rattle.board.specs.Laws.{no_moment, moment_of, RunsIn, RoundsOf, Rounds}
-use Rattle.board.proofs.Keeping.{alike_path, may_start, may_stop, may_tick, sound_fresh, sound_tick}
+use Rattle.board.specs.Laws.{RunsIn, Rounds}
+use Rattle.board.proofs.Keeping.{alike_path, may_start, may_tick, sound_fresh, sound_tick}
 use Rattle.board.proofs.Calling.{asked_sound}
 use Rattle.board.proofs.Spacing.{turn_sound, turn_spaced, new_spaced, stop_spaced, start_spaced}
 

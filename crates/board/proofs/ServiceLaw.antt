@@ -1,19 +1,19 @@
 -- The law of service, by induction over the calls of a drive. Assumes nothing.
-use Rattle.std.proofs.Common.{◌≡◌, ℕ, zero, suc, ◌+◌, ◌<◌, ◌≤◌, Bool, true, List, [], ◌∷◌, length, Some, None, Option, sym, refl, ap, ◌∙◌, subst, arith}
+use Rattle.std.proofs.Common.{◌≡◌, ℕ, zero, suc, ◌+◌, ◌<◌, ◌≤◌, true, List, ◌∷◌, length, Some, None, Option, sym, refl, ◌∙◌, subst, arith}
 use Rattle.plan.specs.Content.{Content}
 use Rattle.plan.specs.Rules.{lawful}
-use Rattle.ready.specs.Calls.{Jobs, FrontBy}
+use Rattle.ready.specs.Calls.{FrontBy}
 use Rattle.ready.specs.Jobs.{ahead}
 use Rattle.ready.specs.declared.job.Job.{Job}
 use Rattle.board.specs.declared.calls.Call.{Call}
 use Rattle.board.specs.declared.calls.Call.TheVariants.{Start, Stop, State, Tick}
 use Rattle.board.specs.declared.calls.CallRefusal.{CallRefusal}
 use Rattle.board.specs.declared.calls.Answer.{Answer}
-use Rattle.board.specs.Models.{Model, Alike, fresh, start_refusal, stop_refusal, state_refusal, started, stopped}
-use Rattle.board.specs.Ticks.{tick_refusal, turned_tables, activates, with_activated, with_served, after_tick, Ticked}
+use Rattle.board.specs.Models.{Model, start_refusal, stop_refusal, state_refusal, started, stopped}
+use Rattle.board.specs.Ticks.{turned_tables, activates, with_activated, with_served, Ticked}
 use Rattle.board.specs.Soundness.{Sound}
 use Rattle.board.specs.Drives.{Did, Asked, Moment, Drive, done, asked, idled, answered}
-use Rattle.board.specs.Laws.{moment_of, board_at, ServiceOf, Service}
+use Rattle.board.specs.Laws.{moment_of, board_at, Service}
 use Rattle.board.proofs.Keeping.{alike_path, may_tick, due_free, sound_fresh, sound_tick}
 use Rattle.board.proofs.Calling.{asked_sound}
 use Rattle.board.proofs.RunLaws.{asked_ticks}

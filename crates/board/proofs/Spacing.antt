@@ -1,9 +1,8 @@
 -- How one table's record and the rounds of its jobs go through start, stop and tick. Assumes nothing.
-use Rattle.std.proofs.Common.{◌≡◌, ℕ, ◌+◌, ◌-◌, ◌<◌, ◌≤◌, Bool, true, false, cond, eqb, ltb, ◌⊎◌, sym, refl, ap, ◌∙◌, subst, inl, inr, ⊎_elim, arith}
+use Rattle.std.proofs.Common.{◌≡◌, ℕ, ◌+◌, ◌-◌, ◌<◌, ◌≤◌, Bool, true, false, cond, ltb, refl, inl, inr, ⊎_elim, arith}
 use Rattle.std.proofs.lemmas.Bool.{ltb-true, ltb-false, eqb-true, both_ways}
 use Rattle.board.specs.declared.records.TableState.{TableState}
 use Rattle.board.specs.declared.records.TableState.TheVariants.{Stopped, Waiting, Running}
-use Rattle.board.specs.declared.records.TableRecord.{TableRecord}
 use Rattle.board.specs.Ticks.{turned_state, begun, runs_at}
 use Rattle.board.specs.Soundness.{TableSound, Spaced}
 

@@ -1,15 +1,13 @@
 -- A drive grows by one call at its end. Assumes nothing.
-use Rattle.std.proofs.Common.{◌≡◌, ℕ, suc, ◌+◌, List, [], ◌∷◌, ◌++◌, length, Some, None, Option, sym, refl, ap, ◌∙◌, subst, arith}
+use Rattle.std.proofs.Common.{◌≡◌, ◌+◌, List, [], ◌∷◌, ◌++◌, length, sym, refl, ap, ◌∙◌, subst, arith}
 use Rattle.std.proofs.lemmas.List.{length_push, append_assoc, append-nil}
 use Rattle.plan.specs.Content.{Content}
-use Rattle.ready.specs.declared.job.Job.{Job}
 use Rattle.board.specs.declared.calls.Call.{Call}
 use Rattle.board.specs.declared.calls.Call.TheVariants.{Start, Stop, State, Tick}
 use Rattle.board.specs.declared.calls.Answer.{Answer}
 use Rattle.board.specs.declared.calls.Answer.TheVariants as told
-use Rattle.board.specs.declared.calls.TickAnswer.{TickAnswer}
 use Rattle.board.specs.Models.{Model, Alike, fresh}
-use Rattle.board.specs.Drives.{Asked, Moment, Drive, done, asked, idled, answered, Step, answered_by, Driven}
+use Rattle.board.specs.Drives.{Moment, Drive, done, asked, idled, answered, Step, answered_by, Driven}
 use Rattle.board.proofs.Keeping.{alike_path}
 
 answered_push : (calls : List Call) (answers : List Answer) (x : Call) (a : Answer) → length answers ≡ length calls → answered_by (calls ++ x ∷ []) (answers ++ a ∷ []) ≡ answered_by calls answers ++ (x, a) ∷ []

@@ -1,6 +1,5 @@
 -- A board of the code by what it means, over any ready queue. Assumes nothing.
-use Rattle.std.specs.Prelude.{◌≡◌, ℕ, ◌≤◌, Ok, Err, Result}
-use Rattle.plan.specs.Content.{Content}
+use Rattle.std.specs.Prelude.{◌≡◌, ◌≤◌, Ok, Err, Result}
 use Rattle.plan.specs.Plans.{content}
 use Rattle.ready.specs.Calls.{Jobs}
 use Rattle.board.specs.declared.boards.Board.{Board}

@@ -1,5 +1,5 @@
 -- Calls with their answers, one after another on one board. Assumes nothing.
-use Rattle.std.specs.Prelude.{◌≡◌, ℕ, Bool, true, false, List, [], ◌∷◌, length, Some, None, Option}
+use Rattle.std.specs.Prelude.{◌≡◌, Bool, true, false, List, [], ◌∷◌, length, Some, None, Option}
 use Rattle.plan.specs.Content.{Content}
 use Rattle.ready.specs.declared.job.Job.{Job}
 use Rattle.board.specs.declared.calls.Call.{Call}

@@ -1,5 +1,5 @@
 -- Two laws over whole drives, over any ready queue: rounds and service. Assumes nothing.
-use Rattle.std.specs.Prelude.{◌≡◌, ℕ, zero, suc, ◌+◌, ◌<◌, ◌≤◌, Bool, true, ◌⊎◌, List, [], ◌∷◌, length, None, slice_index_or}
+use Rattle.std.specs.Prelude.{◌≡◌, ℕ, zero, suc, ◌+◌, ◌<◌, ◌≤◌, true, ◌⊎◌, List, [], ◌∷◌, length, None, slice_index_or}
 use Rattle.plan.specs.Content.{Content, table_count, duration_of}
 use Rattle.plan.specs.Rules.{lawful}
 use Rattle.ready.specs.Calls.{FrontBy}

@@ -1,5 +1,5 @@
 -- The note of activation ticks that a board keeps beside its queue. Assumes nothing.
-use Rattle.std.specs.Prelude.{◌≡◌, ℕ, List, Some, None, Option, slice_index}
+use Rattle.std.specs.Prelude.{◌≡◌, ℕ, List, Some, Option, slice_index}
 use Rattle.std.specs.Option.{option_map}
 use Rattle.ready.specs.Calls.{Jobs}
 use Rattle.ready.specs.declared.job.Job.{Job}

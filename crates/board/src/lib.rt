@@ -1,4 +1,6 @@
 // A board: schedule tables that are started and stopped, and the jobs that they activate, on one processor.
+#![tactic(auto)]
+
 mod boards;
 mod calls;
 mod drives;

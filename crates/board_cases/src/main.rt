@@ -1,4 +1,6 @@
 // Drives boards on sample plans, and prints the last answer of each drive.
+#![tactic(auto)]
+
 use anyhow::anyhow;
 use board::{Answer, Call, drive};
 use plan::{Fault, Plan};

@@ -1,9 +1,11 @@
 // Drives a board by calls from standard input: drive PLANFILE arrival | examiner W | pair CUT
+#![tactic(auto)]
+
 mod orders;
 mod play;
 
 use crate::play::play;
-use anyhow::anyhow;
+use anyhow::{Context, anyhow};
 use plan::{Fault, Plan};
 use ready::arrival::ArrivalList;
 use ready::examiner::ExaminerQueue;
@@ -28,22 +30,22 @@ fn run(rt: &HostRuntime) -> anyhow::Result<()> {
     let mut words = env::args(rt)?;
     let usage = "usage: drive PLANFILE arrival | examiner W | pair CUT";
     let _ = words.next();
-    let path = words.next().ok_or(usage)?;
-    let kind = words.next().ok_or(usage)?;
+    let path = words.next().context(usage)?;
+    let kind = words.next().context(usage)?;
     let plan = read_plan(rt, path.as_str())?;
     match kind.as_str() {
         "arrival" => play(rt, &plan, ArrivalList::new(rt.alloc())?),
         "examiner" => {
-            let watch = words.next().ok_or(usage)?.as_str().parse::<usize>()?;
+            let watch = words.next().context(usage)?.as_str().parse::<usize>()?;
             play(rt, &plan, ExaminerQueue::new(watch))
         }
         "pair" => {
-            let cut = words.next().ok_or(usage)?.as_str().parse::<u8>()?;
+            let cut = words.next().context(usage)?.as_str().parse::<u8>()?;
             let first = ArrivalList::new(rt.alloc())?;
             let second = ArrivalList::new(rt.alloc())?;
             play(rt, &plan, Pair::new(first, second, cut))
         }
-        _ => Err(usage.into()),
+        _ => Err(anyhow!(usage)),
     }
 }
 

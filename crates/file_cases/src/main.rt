@@ -1,5 +1,7 @@
 // Reads plan files written in hexadecimal, one to a line after a label, into one plan, and prints what becomes of each
 // and what the plan then holds.
+#![tactic(auto)]
+
 use anyhow::anyhow;
 use plan::{Fault, Plan};
 use std::alloc::{AllocError, Global};

@@ -1,8 +1,8 @@
 -- The rules of a plan as facts about each table, point and task, from their tests and back. Assumes nothing.
-use Rattle.std.proofs.Common.{◌≡◌, ℕ, zero, suc, ◌+◌, ◌-◌, ◌<◌, ◌≤◌, Bool, true, false, ◌&&◌, ◌||◌, eqb, ltb, leb, ◌⊎◌, sym, refl, ap, ◌∙◌, subst, inl, inr, ⊎_elim, arith}
+use Rattle.std.proofs.Common.{◌≡◌, ℕ, ◌-◌, ◌<◌, ◌≤◌, Bool, true, ◌||◌, eqb, ⊎_elim, arith}
 use Rattle.std.proofs.lemmas.Bool.{and_parts, and_from, or_cases, or_left, or_right, leb-true, ltb-true, eqb-true, le-leb, lt-ltb, eq-eqb, cases_eq}
 use Rattle.plan.specs.Limits.{max_tables, max_duration, max_points, max_tasks_of_point, max_tasks}
-use Rattle.theory.specs.Counting.{in_range, each}
+use Rattle.theory.specs.Counting.{in_range}
 use Rattle.plan.specs.Content.{Content, table_count, point_count, task_count, duration_of, table_of_point, position_of_point, task_at, table_of, points_of, tasks_of}
 use Rattle.plan.specs.Rules.{hyperperiod_of, good_name, after, table_rule, point_rule, task_rule, lawful}
 use Rattle.plan.proofs.Counted.{each_at, each_from}

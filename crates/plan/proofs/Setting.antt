@@ -1,7 +1,7 @@
 -- Right commands set down a plan that keeps the rules. Assumes nothing.
-use Rattle.std.proofs.Common.{◌≡◌, ℕ, zero, suc, ◌+◌, ◌-◌, ◌<◌, ◌≤◌, Bool, true, false, cond, not, ◌&&◌, ◌||◌, eqb, ltb, leb, ◌⊎◌, List, [], ◌∷◌, ◌++◌, length, get_or, None, sym, refl, ap, ◌∙◌, subst, subst₂, inl, inr, ⊎_elim, le_refl, add-zero, arith}
+use Rattle.std.proofs.Common.{◌≡◌, ℕ, zero, suc, ◌+◌, ◌-◌, ◌<◌, ◌≤◌, Bool, true, false, cond, ◌&&◌, ◌||◌, eqb, ltb, leb, ◌⊎◌, List, [], ◌∷◌, ◌++◌, length, get_or, sym, refl, ap, ◌∙◌, subst, subst₂, inl, inr, ⊎_elim, le_refl, add-zero, arith}
 use Rattle.std.proofs.lemmas.List.{length_push, get_or_append_left, get_or_push}
-use Rattle.std.proofs.lemmas.Bool.{and_parts, and_from, or_parts, or_left, or_right, not-true, not-false, leb-true, leb-false, ltb-true, ltb-false, eqb-true, eqb-false, lt-ltb, eq-eqb, ne_eqb, both_ways, cases_eq, cases_Bool, cond-true, cond-false}
+use Rattle.std.proofs.lemmas.Bool.{and_parts, and_from, or_parts, or_left, or_right, not-false, leb-true, leb-false, eqb-true, eqb-false, lt-ltb, eq-eqb, ne_eqb, both_ways, cases_eq, cases_Bool}
 use Rattle.std.proofs.lemmas.Bool.Decides.{nat_tests}
 use Rattle.plan.specs.declared.records.Table.{Table}
 use Rattle.plan.specs.declared.records.Point.{Point}
@@ -10,9 +10,9 @@ use Rattle.plan.specs.Limits.{max_tables, max_duration, max_points, max_tasks_of
 use Rattle.theory.specs.Counting.{total, count}
 use Rattle.plan.specs.Content.{Content, holding, no_table, no_point, no_task, table_count, point_count, task_count, duration_of, table_of_point, position_of_point, task_at, table_of, points_of, tasks_of}
 use Rattle.plan.specs.Rules.{good_name, after, lawful}
-use Rattle.plan.specs.Entries.{Entry, set_table, set_point, set_delay, set_task, ends, blank, points_here, tasks_here, duration_here, position_here, first_row, plan_rows, with_point, added, too_soon, unfinished, too_many, out_of_range, not_rising, over_hyperperiod}
-use Rattle.plan.proofs.RowOrder.{Fine, fine_from}
-use Rattle.plan.proofs.Kept.{TableKept, PointKept, TaskKept, Lawful, lawful_to, range_from}
+use Rattle.plan.specs.Entries.{Entry, set_table, set_point, set_delay, set_task, ends, blank, points_here, tasks_here, duration_here, position_here, with_point, added}
+use Rattle.plan.proofs.RowOrder.{Fine}
+use Rattle.plan.proofs.Kept.{lawful_to, range_from}
 
 -- a list with one more at its end: as before below its old length, and the new one there
 module _ {X : Type 0} (xs : List X) (x d : X) where

@@ -1,14 +1,14 @@
 -- The commands that are read from a file are what is written in it. Assumes nothing.
-use Rattle.std.proofs.Common.{◌≡◌, ℕ, zero, suc, ◌+◌, ◌-◌, ◌*◌, ◌<◌, ◌≤◌, Bool, true, false, cond, ◌&&◌, eqb, ltb, leb, List, [], ◌∷◌, ◌++◌, length, get_or, take, drop, Some, None, sym, refl, ap, ◌∙◌, subst, ⊎_elim, arith, take-append-drop}
-use Rattle.std.proofs.lemmas.List.{append-nil, append_assoc, drop_more, drop-take, take-take, take_all, length-take-le}
-use Rattle.std.proofs.lemmas.Bool.{cases_Bool, eqb-true, eqb-false, both_ways, ltb-false}
+use Rattle.std.proofs.Common.{◌≡◌, ℕ, zero, suc, ◌+◌, ◌≤◌, Bool, true, false, cond, eqb, List, [], ◌∷◌, ◌++◌, length, get_or, take, Some, None, sym, refl, ap, ◌∙◌, subst, arith, take-append-drop}
+use Rattle.std.proofs.lemmas.List.{append-nil, append_assoc, drop_more, drop-take, take-take}
+use Rattle.std.proofs.lemmas.Bool.{eqb-true, both_ways}
 use Rattle.plan.specs.declared.faults.Row.{Row}
 use Rattle.plan.specs.declared.faults.Row.TheVariants.{NotCommand, EndsEarly, TooSoon, Unfinished, TooMany, OutOfRange, NotRising, Hyperperiod, AfterEnd}
 use Rattle.plan.specs.Content.{Content}
 use Rattle.plan.specs.Entries.{Entry, set_table, set_point, set_delay, set_task, ends, first_row, plan_rows, added}
 use Rattle.plan.specs.File.{by_first, width, word, part, task_operands, entry_at, is_end, rows_at, blamed, not_command, ends_early, after_end}
 use Rattle.plan.specs.Laws.{SpellsWord, Spells, Written, Leads}
-use Rattle.plan.proofs.RowOrder.{Right, sized}
+use Rattle.plan.proofs.RowOrder.{sized}
 
 module _ (file : List ℕ) where
   abbrev byte : ℕ → ℕ

@@ -1,14 +1,13 @@
 -- What the code that takes commands tells, turned into the meaning of the file. Assumes nothing.
-use Rattle.std.proofs.Common.{◌≡◌, ℕ, ◌+◌, ◌-◌, Bool, true, false, List, length, Some, None, Ok, Err, sym, refl, ap, ◌∙◌, subst}
+use Rattle.std.proofs.Common.{◌≡◌, ℕ, List, Ok, Err, sym, ◌∙◌}
 use Rattle.plan.specs.declared.commands.Placed.{Placed}
 use Rattle.plan.specs.declared.drafts.Draft.{Draft}
 use Rattle.plan.specs.declared.faults.Fault.{Fault}
 use Rattle.plan.specs.declared.faults.Fault.TheVariants.{At, Memory}
 use Rattle.plan.specs.declared.reader.Reader.{Reader}
 use Rattle.plan.specs.Content.{Content}
-use Rattle.plan.specs.Entries.{Entry, first_row, plan_rows, added}
-use Rattle.plan.specs.File.{entry_at, width, meaning}
-use Rattle.plan.specs.Readers.{bytes, said, Found}
+use Rattle.plan.specs.File.{meaning}
+use Rattle.plan.specs.Readers.{bytes, Found}
 use Rattle.plan.specs.Drafts.{drafted, Added, On, Ended, Stepped, Filled}
 use Rattle.plan.proofs.RowOrder.{plan_row}
 use Rattle.plan.proofs.Walk.{onward, onward_fault, onward_end, onward_more}

@@ -1,12 +1,12 @@
 -- The meaning of a file, walked command by command. Assumes nothing.
-use Rattle.std.proofs.Common.{◌≡◌, ℕ, zero, suc, ◌+◌, ◌-◌, ◌<◌, ◌≤◌, Bool, true, false, cond, ◌&&◌, ltb, leb, List, [], ◌∷◌, ◌++◌, length, Some, None, Option, sym, refl, ap, ◌∙◌, subst, add-one, arith}
+use Rattle.std.proofs.Common.{◌≡◌, ℕ, zero, suc, ◌+◌, ◌-◌, ◌<◌, ◌≤◌, Bool, true, false, cond, ltb, List, length, Some, None, Option, sym, refl, ap, ◌∙◌, add-one, arith}
 use Rattle.std.proofs.lemmas.Bool.{le-ltb, le-leb, and_left}
 use Rattle.plan.specs.declared.faults.Row.{Row}
 use Rattle.plan.specs.declared.faults.Row.TheVariants.{EndsEarly}
 use Rattle.plan.specs.Content.{Content}
 use Rattle.plan.specs.Entries.{blank, first_row, added}
 use Rattle.plan.specs.File.{rows_at, blamed, not_command, ends_early, entry_at, is_end, width, Meaning, sets, blames, judged, meaning_from, meaning}
-use Rattle.plan.proofs.RowOrder.{Right, right_from}
+use Rattle.plan.proofs.RowOrder.{right_from}
 
 module _ (file : List ℕ) where
   -- at the end of the file, nothing but its early end

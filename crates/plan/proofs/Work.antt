@@ -2,7 +2,7 @@
 use Rattle.std.proofs.Common.{◌≡◌, ℕ, ◌*◌, ◌/◌, ◌<◌, ◌≤◌, true, refl, ⊎_elim, mul-le-mul, div-le_self, arith}
 use Rattle.std.proofs.lemmas.Bool.{and_parts, and_from, eqb-true, eq-eqb, lt-ltb, both_ways, cases_lt}
 use Rattle.plan.specs.Limits.{max_duration, max_hyperperiod}
-use Rattle.plan.specs.Content.{Content, table_count, point_count, task_count, duration_of, table_of_point, task_at, table_of}
+use Rattle.plan.specs.Content.{Content, table_count, point_count, task_count, duration_of, task_at, table_of}
 use Rattle.plan.specs.Rules.{divides, common_to, hyperperiod_of, lawful, LeastCommonMultiple}
 use Rattle.plan.proofs.Counted.{each_at, each_from, least_is}
 use Rattle.plan.proofs.Kept.{lawful_from}

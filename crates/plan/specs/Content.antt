@@ -1,5 +1,5 @@
 -- What a plan holds, by index: tables, expiry points and tasks in file order. Assumes nothing.
-use Rattle.std.specs.Prelude.{ℕ, Bool, List, [], length, get_or, nat_eq, slice_index_or}
+use Rattle.std.specs.Prelude.{ℕ, List, [], length, get_or, nat_eq, slice_index_or}
 use Rattle.theory.specs.Counting.{count}
 use Rattle.plan.specs.declared.records.Table.{Table}
 use Rattle.plan.specs.declared.records.Point.{Point}

@@ -1,14 +1,13 @@
 -- A draft by what it holds, and what its calls tell. Assumes nothing.
-use Rattle.std.specs.Prelude.{◌≡◌, ℕ, ◌+◌, ◌≤◌, Bool, true, false, cond, List, length, Some, None, Ok, Err, vec_items, Option, Result}
+use Rattle.std.specs.Prelude.{◌≡◌, Bool, true, false, Some, None, Ok, Err, vec_items, Result}
 use Rattle.plan.specs.declared.drafts.Draft.{Draft}
 use Rattle.plan.specs.declared.commands.Placed.{Placed}
-use Rattle.plan.specs.declared.faults.Row.{Row}
 use Rattle.plan.specs.declared.faults.Fault.{Fault}
 use Rattle.plan.specs.declared.faults.Fault.TheVariants.{At, Memory}
 use Rattle.plan.specs.declared.reader.Reader.{Reader}
 use Rattle.plan.specs.Content.{Content, holding}
-use Rattle.plan.specs.Entries.{Entry, first_row, plan_rows, added}
-use Rattle.plan.specs.File.{Meaning, sets, blames, meaning, rows_at, blamed, is_end, entry_at, width}
+use Rattle.plan.specs.Entries.{first_row, plan_rows, added}
+use Rattle.plan.specs.File.{Meaning, sets, blames, rows_at, blamed, is_end, entry_at, width}
 use Rattle.plan.specs.Readers.{said, bytes, Moved}
 
 abbrev pub drafted : Draft → Content

@@ -1,5 +1,5 @@
 -- What the commands of a plan file say, which rows one breaks, and what it adds. Assumes nothing.
-use Rattle.std.specs.Prelude.{ℕ, ◌+◌, ◌-◌, Bool, true, false, cond, not, ◌&&◌, ◌||◌, List, [], ◌∷◌, ◌++◌, Some, None, Option, ◌==◌, nat_le, nat_lt}
+use Rattle.std.specs.Prelude.{ℕ, ◌+◌, ◌-◌, Bool, false, cond, not, ◌&&◌, ◌||◌, List, [], ◌∷◌, ◌++◌, Some, None, Option, ◌==◌, nat_le, nat_lt}
 use Rattle.plan.specs.declared.faults.Row.{Row}
 use Rattle.plan.specs.declared.faults.Row.TheVariants.{TooSoon, Unfinished, TooMany, OutOfRange, NotRising, Hyperperiod}
 use Rattle.plan.specs.Limits.{max_tables, max_duration, max_points, max_tasks_of_point, max_tasks}

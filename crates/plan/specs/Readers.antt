@@ -1,10 +1,9 @@
 -- What a reader over a file tells, and where it stands afterwards. Assumes nothing.
-use Rattle.std.specs.Prelude.{◌≡◌, ℕ, ◌+◌, ◌<◌, ◌≤◌, Bool, true, false, List, length, get_or, Some, None, Ok, Err, Result}
+use Rattle.std.specs.Prelude.{◌≡◌, ℕ, ◌+◌, ◌<◌, ◌≤◌, true, false, List, length, Ok, Err, Result}
 use Rattle.plan.specs.declared.reader.Reader.{Reader}
 use Rattle.plan.specs.declared.commands.Command.{Command}
 use Rattle.plan.specs.declared.commands.Command.TheVariants.{Table, Point, Delay, Task, End}
 use Rattle.plan.specs.declared.commands.Placed.{Placed}
-use Rattle.plan.specs.declared.faults.Row.TheVariants as of_row
 use Rattle.plan.specs.declared.faults.CutShort.{CutShort}
 use Rattle.plan.specs.declared.faults.Garbled.{Garbled}
 use Rattle.plan.specs.declared.faults.Garbled.TheVariants as of-garbled

@@ -1,4 +1,6 @@
 // A plan of schedule tables, and the file it is read from.
+#![tactic(auto)]
+
 mod adding;
 mod commands;
 mod drafts;

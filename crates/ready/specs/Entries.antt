@@ -1,5 +1,5 @@
 -- A sound list of jobs: what it holds, and what a put and a serve make of it. Assumes nothing.
-use Rattle.std.specs.Prelude.{◌≡◌, ℕ, ◌+◌, ◌<◌, Bool, true, false, cond, ◌⊎◌, List, [], ◌∷◌, ◌++◌, length, take, is_some, Some, None, Option, ◌==◌, nat_eq, nat_lt, slice_index_or, slice_set, refl}
+use Rattle.std.specs.Prelude.{◌≡◌, ℕ, ◌+◌, ◌<◌, Bool, true, false, cond, List, [], ◌∷◌, ◌++◌, length, take, is_some, Some, None, Option, ◌==◌, nat_eq, nat_lt, slice_index_or, slice_set, refl}
 use Rattle.std.proofs.Common.{sym, ap, ◌∙◌, subst, inl, inr, ⊎_elim, arith}
 use Rattle.std.specs.List.{remove}
 use Rattle.std.specs.Option.{option_to_list}
@@ -48,7 +48,7 @@ arrival_front xs s = front_by ahead ahead_ranks (job_of xs) xs (held_entry xs) (
 
 -- ---- one job more
 pub pushed : (xs : List Job) (j : Job) → is_some (job_of xs j.task) ≡ false → (t : ℕ) → job_of (xs ++ j ∷ []) t ≡ update nat_eq (job_of xs) j.task (Some j) t
-pushed [] j free t = refl
+pushed [] j free t = grind (arith, nat_tests)
 pushed (x ∷ xs) j free t = let IH = pushed xs j in grind (arith, nat_tests, IH)
 
 pub pushed_sound : (xs : List Job) (j : Job) → sound xs ≡ true → fit j ≡ true → is_some (job_of xs j.task) ≡ false → sound (xs ++ j ∷ []) ≡ true

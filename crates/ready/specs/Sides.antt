@@ -2,7 +2,7 @@
 use Rattle.std.specs.Prelude.{◌≡◌, ℕ, Bool, true, false, cond, ◌&&◌, ◌⊎◌, is_some, Some, None, Option, refl}
 use Rattle.std.proofs.Common.{ap, ◌∙◌, inl, inr, ⊎_elim, arith}
 use Rattle.ready.specs.Jobs.{ahead}
-use Rattle.ready.specs.Calls.{Jobs, FrontBy}
+use Rattle.ready.specs.Calls.{Jobs, placed, FrontBy}
 use Rattle.ready.specs.Fronts.{front_with}
 use Rattle.ready.specs.Pairs.{or_else, both_jobs, Apart}
 use Rattle.ready.specs.declared.job.Job.{Job}
@@ -16,6 +16,14 @@ either_side (Some j) p i e = inl e
 pub none_first : (o p : Option Job) (b : Job) → (is_some o && is_some p) ≡ false → p ≡ Some b → o ≡ None
 none_first None p b h e = refl
 none_first (Some j) p b h e = grind (arith, ap is_some e)
+
+-- each job of both sides stands at its own number if each job of a side does
+pub both_stand : (js ks : Jobs) → ((t : ℕ) → placed t (js t) ≡ true) → ((t : ℕ) → placed t (ks t) ≡ true) → (t : ℕ) → placed t (both_jobs js ks t) ≡ true
+both_stand js ks first second t = either (js t) (ks t) (first t) (second t)
+  where
+    either : (o p : Option Job) → placed t o ≡ true → placed t p ≡ true → placed t (or_else o p) ≡ true
+    either None p f s = s
+    either (Some j) p f s = f
 
 module _ (js ks : Jobs) (apart : Apart js ks) where
   held_first : (a : Job) → js a.task ≡ Some a → both_jobs js ks a.task ≡ Some a

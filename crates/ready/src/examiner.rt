@@ -6,7 +6,6 @@ ghost use Rattle.ready.specs.Calls.{placed, FrontBy};
 ghost use Rattle.ready.specs.Fronts.{front_with};
 ghost use Rattle.ready.specs.Examiners.{slot_of, turn, goes_before, examiners_front};
 ghost use Rattle.ready.specs.Slots.{examiner_front, front_ahead};
-ghost use Rattle.std.proofs.Common.{rules, arith};
 
 use crate::job::{Job, MAX_TASKS};
 use crate::queue::ReadyQueue;
@@ -98,7 +97,7 @@ impl ReadyQueue for ExaminerQueue {
     // No change touches the watch number.
     ghost own = { λ q _ after. after.watch ≡ q.watch };
 
-    ghost stands = { first_of (Prim.search rules, Prim.grind (arith, Self.row.coded.inj)) };
+    ghost stands = { λ q w. q.each };
 
     ghost fronts = { λ q w. front_ahead q.watch (slot_of q.slots) (examiners_front q.watch q.slots) (examiner_front q.watch q.slots q.each) };
 

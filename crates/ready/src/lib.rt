@@ -1,4 +1,6 @@
 // Ready queues: the jobs that wait for the processor, and which of them runs next.
+#![tactic(auto)]
+
 pub mod arrival;
 pub mod examiner;
 pub mod job;

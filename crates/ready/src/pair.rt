@@ -4,8 +4,7 @@ ghost use Rattle.ready.specs.Jobs.{ahead};
 ghost use Rattle.ready.specs.Fronts.{front_with};
 ghost use Rattle.ready.specs.Calls.{Cleared};
 ghost use Rattle.ready.specs.Pairs.{both_jobs, Apart, PairOwn};
-ghost use Rattle.ready.specs.Sides.{pair_fronts};
-ghost use Rattle.std.proofs.Common.{rules};
+ghost use Rattle.ready.specs.Sides.{both_stand, pair_fronts};
 
 use crate::job::Job;
 use crate::lead::{front_with, takes_lead};
@@ -45,7 +44,8 @@ impl<A: ReadyQueue, B: ReadyQueue> ReadyQueue for Pair<A, B> {
     // Which side a change goes to.
     ghost own = { λ p change q. (q.cut ≡ p.cut) × PairOwn A.ReadyQueue.jobs A.ReadyQueue.top A.ReadyQueue.own B.ReadyQueue.jobs B.ReadyQueue.top B.ReadyQueue.own p.cut p.first p.second change q.first q.second };
 
-    ghost stands = { Prim.search rules };
+    ghost stands = { λ q w.
+        both_stand (A.ReadyQueue.jobs q.first) (B.ReadyQueue.jobs q.second) (A.ReadyQueue.stands q.first w.0) (B.ReadyQueue.stands q.second w.1) };
 
     ghost fronts = { λ q w.
         pair_fronts (A.ReadyQueue.jobs q.first) (B.ReadyQueue.jobs q.second) w.2

@@ -1,4 +1,6 @@
 // Puts a few tied jobs into each ready queue, and shows the numbers of the refusals and the order of service.
+#![tactic(auto)]
+
 ghost use Rattle.std.specs.Prelude.{◌≡◌};
 ghost use Rattle.std.specs.Option.{unwrap_or};
 ghost use Rattle.ready.specs.Refusals.{told};

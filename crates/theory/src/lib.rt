@@ -1,4 +1,6 @@
 // The response-time theory of schedule tables: the contract of each function is a theorem.
+#![tactic(auto)]
+
 ghost use Rattle.theory.specs.Samples.{HypothesesMet};
 ghost use Rattle.theory.specs.Theorems.{HitsByDivision, DemandRises, ReachExists, ReachUnique, ReachWithin, ReachBounded, ReachJumps, FigureExists, FigureUnique};
 ghost use Rattle.theory.specs.Theorems.{StepsAreRounds, ServiceDrains, Upper, Safe, Exact, Exposed, Overrun, ServiceExists, RunsExist, Attained, Verdict};

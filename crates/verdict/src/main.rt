@@ -1,4 +1,6 @@
 // Reads a plan file from standard input and prints what becomes of it, in lines.
+#![tactic(auto)]
+
 use anyhow::anyhow;
 use plan::{Fault, Plan};
 use std::io::Read;

@@ -6,16 +6,16 @@ use Rattle.plan.proofs.Work.{part, Part, part_is}
 use Rattle.plan.proofs.load.total_work.Goals as goal
 use Rattle.plan.proofs.load.total_work.Goals.{After-from}
 
-pub offset-bounds-points-task : goal.offset-bounds-points-task
-offset-bounds-points-task c =
+pub offset_bounds-points-task : goal.offset_bounds-points-task
+offset_bounds-points-task c =
     let p = (part_is (holding c.args.tables.now c.args.points.now c.args.tasks.now) c.requires.kept _ c.loop-task-test.true).point_in in
     search rules
 
 pub bounds-points-task : goal.bounds-points-task
 bounds-points-task c = (part_is (holding c.args.tables.now c.args.points.now c.args.tasks.now) c.requires.kept _ c.loop-task-test.true).point_in
 
-pub offset-bounds-tables-table : goal.offset-bounds-tables-table
-offset-bounds-tables-table c =
+pub offset_bounds-tables-table : goal.offset_bounds-tables-table
+offset_bounds-tables-table c =
     let p = (part_is (holding c.args.tables.now c.args.points.now c.args.tasks.now) c.requires.kept _ c.loop-task-test.true).table_in in
     search rules
 
@@ -33,14 +33,14 @@ here c = part_is (all c) c.requires.kept c.loop-task.task-index c.loop-task-test
 adds : (c : After-from) → c.from.result * c.args.hyperperiod / c.from-duration.result ≡ part (all c) c.loop-task.task-index
 adds c = rw (c.from.ensures, c.from-duration.ensures, c.requires.multiple)
 
-pub overflow-mul-work : goal.overflow-mul-work
-overflow-mul-work c = let p = (here c).product in rw (c.from.ensures, c.requires.multiple) (search rules)
+pub overflow_mul-work : goal.overflow_mul-work
+overflow_mul-work c = let p = (here c).product in rw (c.from.ensures, c.requires.multiple) (search rules)
 
-pub nonzero-div-work : goal.nonzero-div-work
-nonzero-div-work c = rw c.from-duration.ensures (here c).divisor
+pub nonzero_div-work : goal.nonzero_div-work
+nonzero_div-work c = rw c.from-duration.ensures (here c).divisor
 
-pub overflow-add-work : goal.overflow-add-work
-overflow-add-work c =
+pub overflow_add-work : goal.overflow_add-work
+overflow_add-work c =
     let p = (here c).small in
     let few = (lawful_from (all c) c.requires.kept).few_tasks in
     let e = adds c in

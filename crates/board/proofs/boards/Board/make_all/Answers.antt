@@ -1,4 +1,4 @@
-use Rattle.std.proofs.Common.{◌≡◌, List, [], ◌∷◌, ◌++◌, get_or, take, is_ok, vec_items, sym, refl, ap, ◌∙◌, subst, subst₂}
+use Rattle.std.proofs.Common.{[], get_or, take, is_ok, vec_items, sym, refl, ap, ◌∙◌, subst, subst₂}
 use Rattle.std.proofs.ResultArms.{chosen}
 use Rattle.std.proofs.lemmas.List.{take_more, take_all}
 use Rattle.plan.specs.Plans.{content}
@@ -12,7 +12,7 @@ pub loop-call-init : goal.loop-call-init
 loop-call-init g c good new =
     let p = content c.args.self.now.plan in
     let m = model g.Q.ReadyQueue.jobs g.Q.ReadyQueue.whole c.args.self.now in
-    (good, refl, subst (λ l. Sofar p [] l m) (sym c.in-ok-answers.ensures.items) (sofar_none p m new))
+    (good, refl, subst (λ l. Sofar p [] l m) (sym c.in_ok-answers.ensures.items) (sofar_none p m new))
 
 pub loop-call-preserved : goal.loop-call-preserved
 loop-call-preserved g c good new =
@@ -20,7 +20,7 @@ loop-call-preserved g c good new =
     let p = content c.args.self.now.plan in
     let m = model g.Q.ReadyQueue.jobs g.Q.ReadyQueue.whole c.loop-call.self in
     let n = model g.Q.ReadyQueue.jobs g.Q.ReadyQueue.whole c.call.new.self in
-    let pushed = chosen _ _ _ _ c.push.ensures.items (ap is_ok c.in-ok-push.was) in
+    let pushed = chosen _ _ _ _ c.push.ensures.items (ap is_ok c.in_ok-push.was) in
     let i = c.loop-call.call-index in
     let calls = c.args.calls.now in
     let x = get_or calls i (Start 0 0) in

@@ -1,8 +1,7 @@
-use Rattle.std.proofs.Common.{◌≡◌, ◌+◌, true, is_some, None, sym, refl, ap, ◌∙◌, arith, rules}
+use Rattle.std.proofs.Common.{◌≡◌, ◌+◌, true, None, refl, ap, ◌∙◌, arith, rules}
 use Rattle.std.proofs.lemmas.Bool.{both_ways}
 use Rattle.plan.specs.Plans.{content}
-use Rattle.board.specs.Boards.{model, Good}
-use Rattle.board.specs.Models.{max_ticks}
+use Rattle.board.specs.Boards.{model}
 use Rattle.board.specs.Records.{record_of}
 use Rattle.board.specs.Refusals.{tick_answer}
 use Rattle.board.specs.Ticks.{tick_refusal}
@@ -22,31 +21,31 @@ returns g c =
     let b = c.args.self.now in
     let p = content b.plan in
     let m = model jobs whole b in
-    let q₁ = c.activate-due.new.self.queue in
+    let q₁ = c.activate_due.new.self.queue in
     let q₂ = c.serve-served.new.self.queue in
     let may = may_tick m (allowed g c) in
     record {
       answer = λ h.
-          let w₁ = c.activate-due.ensures.whole h.queue in
-          let n₁ = c.activate-due.ensures.noted h.queue h.noted in
+          let w₁ = c.activate_due.ensures.whole h.queue in
+          let n₁ = c.activate_due.ensures.noted h.queue h.noted in
           let w₂ = c.serve-served.ensures.whole w₁ in
           let n₂ = c.serve-served.ensures.noted w₁ n₁ in (
             allowed g c,
             g.Q.ReadyQueue.top q₁,
-            tick_made p b.plan.kept m h.sound may.0 (record_of c.turn-all.new.self.records) c.turn-all.ensures (jobs q₁) (c.activate-due.ensures.jobs h.queue) (g.Q.ReadyQueue.top q₁) (g.met.Q.ReadyQueue.fronts q₁ w₁) (jobs q₂) (c.serve-served.ensures.jobs w₁) c.first-late-late.result (c.first-late-late.ensures w₂ n₂)
-                c.new.result (c.new.ensures ∙ ap (λ o. tick_answer o (b.ticks + 1) c.first-late-late.result) (c.serve-served.ensures.answer w₁)),
+            tick_made p b.plan.kept m h.sound may.0 (record_of c.turn_all.new.self.records) c.turn_all.ensures (jobs q₁) (c.activate_due.ensures.jobs h.queue) (g.Q.ReadyQueue.top q₁) (g.met.Q.ReadyQueue.fronts q₁ w₁) (jobs q₂) (c.serve-served.ensures.jobs w₁) c.first_late-late.result (c.first_late-late.ensures w₂ n₂)
+                c.new.result (c.new.ensures ∙ ap (λ o. tick_answer o (b.ticks + 1) c.first_late-late.result) (c.serve-served.ensures.answer w₁)),
           );
       refused = λ no_Ok. absurd (both_ways true no_Ok refl);
       plan = refl;
       good = λ h.
-          let w₁ = c.activate-due.ensures.whole h.queue in
-          let n₁ = c.activate-due.ensures.noted h.queue h.noted in
+          let w₁ = c.activate_due.ensures.whole h.queue in
+          let n₁ = c.activate_due.ensures.noted h.queue h.noted in
           let w₂ = c.serve-served.ensures.whole w₁ in
           let n₂ = c.serve-served.ensures.noted w₁ n₁ in
           record {
             queue = w₂;
             noted = n₂;
             clock = omega (arith, may.1);
-            sound = tick_sound p b.plan.kept m h.sound may.0 (record_of c.turn-all.new.self.records) c.turn-all.ensures (jobs q₁) (c.activate-due.ensures.jobs h.queue) (g.Q.ReadyQueue.top q₁) (g.met.Q.ReadyQueue.fronts q₁ w₁) (jobs q₂) (c.serve-served.ensures.jobs w₁) c.first-late-late.result (c.first-late-late.ensures w₂ n₂);
+            sound = tick_sound p b.plan.kept m h.sound may.0 (record_of c.turn_all.new.self.records) c.turn_all.ensures (jobs q₁) (c.activate_due.ensures.jobs h.queue) (g.Q.ReadyQueue.top q₁) (g.met.Q.ReadyQueue.fronts q₁ w₁) (jobs q₂) (c.serve-served.ensures.jobs w₁) c.first_late-late.result (c.first_late-late.ensures w₂ n₂);
           };
     }

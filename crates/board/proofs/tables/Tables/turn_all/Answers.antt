@@ -1,11 +1,10 @@
-use Rattle.std.proofs.Common.{◌≡◌, sym, ap, ◌∙◌, ⊎_elim, arith}
+use Rattle.std.proofs.Common.{sym, ap, ◌∙◌, ⊎_elim, arith}
 use Rattle.std.proofs.lemmas.List.{get_or_past}
 use Rattle.std.proofs.lemmas.Bool.{cases_lt}
 use Rattle.plan.specs.Content.{duration_of}
 use Rattle.plan.specs.Plans.{content}
 use Rattle.plan.specs.Limits.{max_tables}
 use Rattle.board.specs.Models.{at_rest}
-use Rattle.board.specs.Records.{record_of}
 use Rattle.board.specs.Ticks.{turned}
 use Rattle.board.proofs.tables.Tables.turn_all.Goals as goal
 

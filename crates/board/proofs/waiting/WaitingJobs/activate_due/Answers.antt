@@ -1,11 +1,10 @@
-use Rattle.std.proofs.Common.{◌≡◌, ◌+◌, length, sym, refl, ap, ◌∙◌, subst, arith}
+use Rattle.std.proofs.Common.{◌≡◌, ◌+◌, length, sym, ap, ◌∙◌, subst, arith}
 use Rattle.plan.specs.Content.{task_count}
 use Rattle.plan.specs.Plans.{content}
 use Rattle.board.specs.Records.{record_of}
-use Rattle.board.specs.Ticks.{new_job}
 use Rattle.board.proofs.Activating.{Upto, upto_none, upto_not, upto_due, due_is, seen_all}
 use Rattle.board.proofs.waiting.WaitingJobs.activate_due.Goals as goal
-use Rattle.board.proofs.waiting.WaitingJobs.activate_due.Goals.{then-is-at, else-is-at}
+use Rattle.board.proofs.waiting.WaitingJobs.activate_due.Goals.{then-is_at, else-is_at}
 
 pub loop-k-init : goal.loop-k-init
 loop-k-init g c w =
@@ -20,14 +19,14 @@ loop-k-preserved g c w =
     let q = c.args.self.now.queue in
     let s = c.args.self.now.since in
     let u = c.loop-k.invariant w in
-    elim c.if-is-at.branch [
-      | then-is-at x ↦
-          let due = due_is p recs c.tasks-tasks.result.now c.points.result.now c.point-at-point.result c.record-of.result c.loop-k.k _ c.tasks-tasks.ensures c.points.ensures c.point-at-point.ensures c.record-of.ensures x.if-is-at.ensures c.loop-k-test.true in
+    elim c.if-is_at.branch [
+      | then-is_at x ↦
+          let due = due_is p recs c.tasks-tasks.result.now c.points.result.now c.point_at-point.result c.record_of.result c.loop-k.k _ c.tasks-tasks.ensures c.points.ensures c.point_at-point.ensures c.record_of.ensures x.if-is_at.ensures c.loop-k-test.true in
           let a = x.activate.ensures in
           subst (λ v. Upto p recs c.args.tick jobs whole q s (c.loop-k.k + 1) v.queue v.since) (sym x.self-is)
           (upto_due p recs c.args.tick jobs whole q s c.loop-k.k c.loop-k.self.queue x.activate.new.self.queue c.loop-k.self.since x.activate.new.self.since _ c.args.plan.now.kept (omega (arith, c.loop-k-test.true, ap length c.tasks-tasks.ensures)) due (rw c.tasks-tasks.ensures) (record { put = a.jobs; stays = a.whole; note = a.noted }) u)
-      | else-is-at x ↦
-          let off = due_is p recs c.tasks-tasks.result.now c.points.result.now c.point-at-point.result c.record-of.result c.loop-k.k _ c.tasks-tasks.ensures c.points.ensures c.point-at-point.ensures c.record-of.ensures x.if-is-at.ensures c.loop-k-test.true in
+      | else-is_at x ↦
+          let off = due_is p recs c.tasks-tasks.result.now c.points.result.now c.point_at-point.result c.record_of.result c.loop-k.k _ c.tasks-tasks.ensures c.points.ensures c.point_at-point.ensures c.record_of.ensures x.if-is_at.ensures c.loop-k-test.true in
           subst (λ v. Upto p recs c.args.tick jobs whole q s (c.loop-k.k + 1) v.queue v.since) (sym x.self-is)
           (upto_not p recs c.args.tick jobs whole q s c.loop-k.k _ _ off u)
     ]

@@ -11,7 +11,7 @@ carried : {ts ts' : List Table} {ps ps' : List Point} {ks ks' : List Task} → t
 carried t p k h = rw (t, p, k) h
 
 -- the rules hold by computation
-pub invariant-of-result : goal.invariant-of-result
+pub invariant_of-result : goal.invariant_of-result
 unfolding least
-invariant-of-result c =
-    (carried c.in-ok-tables.ensures.items c.in-ok-points.ensures.items c.in-ok-tasks.ensures.items refl, tt)
+invariant_of-result c =
+    record { kept = carried c.in_ok-tables.ensures.items c.in_ok-points.ensures.items c.in_ok-tasks.ensures.items refl }

@@ -3,16 +3,16 @@ use Rattle.ready.specs.Arrivals.{PlaceOf}
 use Rattle.ready.specs.Entries.{settled}
 use Rattle.ready.proofs.arrival.ArrivalList.settle.Goals as goal
 
-pub invariant-of-self : goal.invariant-of-self
-invariant-of-self c =
+pub invariant_of-self : goal.invariant_of-self
+invariant_of-self c =
     let q = c.args.self.now in
-    let place = subst (λ l. PlaceOf l c.args.job.task c.in-Some.place) c.as-slice.ensures.value c.in-Some.ensures.found in
-    let a = settled (vec_items q.list) c.args.job c.in-Some.place (vec_items c.settle-at.new.list) q.apart place c.settle-at.ensures.items in
-    (a.stays, (omega (arith, c.settle-at.ensures.capacity, q.room), tt))
+    let place = subst (λ l. PlaceOf l c.args.job.task c.in-Some.place) c.as_slice.ensures.value c.in-Some.ensures.found in
+    let a = settled (vec_items q.list) c.args.job c.in-Some.place (vec_items c.settle_at.new.list) q.apart place c.settle_at.ensures.items in
+    record { apart = a.stays; room = omega (arith, c.settle_at.ensures.capacity, q.room) }
 
 pub returns : goal.returns
 returns c =
     let q = c.args.self.now in
-    let place = subst (λ l. PlaceOf l c.args.job.task c.in-Some.place) c.as-slice.ensures.value c.in-Some.ensures.found in
-    let a = settled (vec_items q.list) c.args.job c.in-Some.place (vec_items c.settle-at.new.list) q.apart place c.settle-at.ensures.items in
+    let place = subst (λ l. PlaceOf l c.args.job.task c.in-Some.place) c.as_slice.ensures.value c.in-Some.ensures.found in
+    let a = settled (vec_items q.list) c.args.job c.in-Some.place (vec_items c.settle_at.new.list) q.apart place c.settle_at.ensures.items in
     record { list = a.is; change = a.change }

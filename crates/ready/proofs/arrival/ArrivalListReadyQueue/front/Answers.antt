@@ -9,5 +9,5 @@ use Rattle.ready.proofs.arrival.ArrivalListReadyQueue.front.Goals as goal
 pub returns : goal.returns
 returns c =
     let q = c.args.self.now in
-    let is : c.front-of.result ≡ front_of ahead (vec_items q.list) = c.front-of.ensures ∙ ap (front_of ahead) c.as-slice.ensures.value in
+    let is : c.front_of.result ≡ front_of ahead (vec_items q.list) = c.front_of.ensures ∙ ap (front_of ahead) c.as_slice.ensures.value in
     record { value = is; rule = subst (FrontBy ahead (job_of (vec_items q.list))) (sym is) (arrival_front (vec_items q.list) q.apart) }

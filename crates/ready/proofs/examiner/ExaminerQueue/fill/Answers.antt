@@ -2,6 +2,6 @@ use Rattle.std.proofs.Common.{arith, rules}
 use Rattle.ready.specs.Slots.{filled_each}
 use Rattle.ready.proofs.examiner.ExaminerQueue.fill.Goals as goal
 
-pub invariant-of-self : goal.invariant-of-self
-invariant-of-self c =
-    (search rules, (filled_each c.args.self.now.slots c.args.task c.args.given (omega arith) c.args.self.now.each c.requires.given, tt))
+pub invariant_of-self : goal.invariant_of-self
+invariant_of-self c =
+    record { full = search rules; each = filled_each c.args.self.now.slots c.args.task c.args.given (omega arith) c.args.self.now.each c.requires.given }

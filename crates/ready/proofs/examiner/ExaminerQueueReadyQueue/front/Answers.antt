@@ -8,7 +8,7 @@ pub loop-slot-preserved : goal.loop-slot-preserved
 loop-slot-preserved c =
     let q = c.args.self.now in
     let within : c.loop-slot.slot-index < length q.slots = omega arith in
-    let with-slot = rw c.loop-slot.invariant at c.front-with-best.ensures in
+    let with-slot = rw c.loop-slot.invariant at c.front_with-best.ensures in
     with-slot ∙ examiner_more q.watch q.slots c.loop-slot.slot-index _ within (search rules)
 
 pub returns : goal.returns
