@@ -7,4 +7,4 @@ use Rattle.figures.proofs.search.figures.Goals as goal
 pub loop-task-preserved : goal.loop-task-preserved
 loop-task-preserved c =
     each_pushed (WorstOf (content c.args.plan.now)) no_worst (vec_items c.loop-task.worsts) _ _ _
-    c.in-ok-push.ensures.items c.loop-task.invariant.0 c.loop-task.invariant.1 c.in-ok-worst-of.ensures
+    c.in_ok-push.ensures.items c.loop-task.invariant.0 c.loop-task.invariant.1 c.in_ok-worst_of.ensures

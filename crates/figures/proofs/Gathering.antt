@@ -10,7 +10,7 @@ use Rattle.plan.proofs.Kept.{lawful_from}
 use Rattle.plan.specs.Limits.{max_tasks, max_duration}
 use Rattle.plan.proofs.Counted.{total_more}
 use Rattle.figures.specs.declared.loads.Load.{Load}
-use Rattle.figures.specs.Indexed.{plan_of}
+use Rattle.analysis.specs.Bridge.{plan_of}
 use Rattle.figures.specs.Loads.{no_load, activations, term_of, Small}
 use Rattle.figures.specs.Grouped.{addition, GroupFor}
 

@@ -8,7 +8,7 @@ use Rattle.theory.proofs.Sums.{total_cong, total_zero, total_swap}
 use Rattle.theory.proofs.Clocks.{hits_by_division_lem}
 use Rattle.plan.specs.Content.{Content, table_count}
 use Rattle.figures.specs.declared.loads.Group.{Group}
-use Rattle.figures.specs.Indexed.{plan_of}
+use Rattle.analysis.specs.Bridge.{plan_of}
 use Rattle.figures.specs.Loads.{no_group, activations, part_of, demand_of}
 use Rattle.figures.specs.Reaches.{ReachOf}
 use Rattle.figures.specs.Grouped.{addition, Grouped}

@@ -5,7 +5,7 @@ use Rattle.theory.specs.Plans.{Plan}
 use Rattle.theory.specs.Windows.{share}
 use Rattle.plan.specs.Content.{Content, table_count, duration_of}
 use Rattle.figures.specs.declared.loads.Group.{Group}
-use Rattle.figures.specs.Indexed.{plan_of}
+use Rattle.analysis.specs.Bridge.{plan_of}
 use Rattle.figures.specs.Loads.{no_group, activations, part_of, Fine}
 
 -- what task k adds to the demand against a job of t, if it is a task of table i, and i has the phase φ: counted over z ticks if it is more urgent, over u if level

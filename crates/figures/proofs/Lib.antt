@@ -1,5 +1,4 @@
 pub mod Terms
-pub mod LawfulPlans
 pub mod Gathering
 pub mod Demands
 pub mod Pushed

@@ -4,8 +4,8 @@ use Rattle.figures.proofs.Gathering.{placed, gathered_skip, gathered_take, gathe
 use Rattle.figures.proofs.grouping.group_of.Goals as goal
 use Rattle.figures.proofs.grouping.group_of.Goals.{After-from}
 
-pub offset-bounds-points-other : goal.offset-bounds-points-other
-offset-bounds-points-other c =
+pub offset_bounds-points-other : goal.offset_bounds-points-other
+offset_bounds-points-other c =
     let p = (placed (holding c.args.tables.now c.args.points.now c.args.tasks.now) c.requires.kept _ c.loop-other-test.true).point_in in
     search rules
 
@@ -24,8 +24,8 @@ loop-other-preserved-then-other-priority c =
     let k = c.loop-other.other-index in
     gathered_skip p c.args.task c.args.table _ _ k c.loop-other.invariant (less_urgent p c.args.task c.args.table k c.if-other-priority.true)
 
-pub overflow-sub-loads : goal.overflow-sub-loads
-overflow-sub-loads c =
+pub overflow_sub-loads : goal.overflow_sub-loads
+overflow_sub-loads c =
     let p = holding c.args.tables.now c.args.points.now c.args.tasks.now in
     let e = ap (duration_of p) c.if-point-table.false in
     omega (arith, c.from-duration.ensures, (placed p c.requires.kept _ c.loop-other-test.true).within, e)
@@ -37,8 +37,8 @@ within c =
     let e = ap (duration_of p) c.if-point-table.false in
     omega (arith, c.from-duration.ensures, (placed p c.requires.kept _ c.loop-other-test.true).within, e)
 
-pub overflow-sub-loads-in-loop-other : goal.overflow-sub-loads-in-loop-other
-overflow-sub-loads-in-loop-other c = omega (arith, within c, c.from.ensures)
+pub overflow_sub-loads-in-loop-other : goal.overflow_sub-loads-in-loop-other
+overflow_sub-loads-in-loop-other c = omega (arith, within c, c.from.ensures)
 
 pub loop-other-preserved : goal.loop-other-preserved
 loop-other-preserved c =

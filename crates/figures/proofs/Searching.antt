@@ -15,7 +15,7 @@ use Rattle.figures.specs.declared.loads.Group.{Group}
 use Rattle.figures.specs.declared.worst.Worst.{Worst}
 use Rattle.figures.specs.declared.windows.Own.{Own}
 use Rattle.figures.specs.declared.windows.Window.{Window}
-use Rattle.figures.specs.Indexed.{plan_of}
+use Rattle.analysis.specs.Bridge.{plan_of}
 use Rattle.figures.specs.Loads.{no_group, AllFine}
 use Rattle.figures.specs.Reaches.{ReachOf}
 use Rattle.figures.specs.Choices.{Has, Stands, Listed}
@@ -23,7 +23,7 @@ use Rattle.figures.specs.Ceilings.{ceiling_of, Within}
 use Rattle.figures.specs.Worsts.{phase_of, Attains, WorstOf}
 use Rattle.figures.specs.Tries.{Open, phase_in, Taken, Bettered}
 use Rattle.figures.specs.Owns.{Prepared, WindowOf, Topped}
-use Rattle.figures.proofs.LawfulPlans.{plans_are_lawful_lem}
+use Rattle.analysis.proofs.LawfulPlans.{plans_are_lawful_lem}
 use Rattle.figures.proofs.Demands.{demand_is, reach_to, reach_from}
 use Rattle.figures.proofs.Peaks.{ceiling_above}
 use Rattle.figures.proofs.Phases.{phase_one}

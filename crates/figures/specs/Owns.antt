@@ -8,7 +8,7 @@ use Rattle.figures.specs.declared.windows.Own.{Own}
 use Rattle.figures.specs.declared.windows.Window.{Window}
 use Rattle.figures.specs.Choices.{Listed}
 use Rattle.figures.specs.Grouped.{Grouped}
-use Rattle.figures.specs.Indexed.{plan_of}
+use Rattle.analysis.specs.Bridge.{plan_of}
 
 -- o is the own table of task t, with t's position in it
 pub record OwnOf (c : Content) (t : ℕ) (o : Own) : Type 0 where

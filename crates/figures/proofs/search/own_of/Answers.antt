@@ -1,7 +1,7 @@
 use Rattle.std.proofs.Common.{◌<◌, length, get_or, ap, arith, rules}
 use Rattle.plan.specs.Content.{no_task, no_point}
 use Rattle.plan.specs.Plans.{content}
-use Rattle.figures.proofs.LawfulPlans.{plans_are_lawful_lem}
+use Rattle.analysis.proofs.LawfulPlans.{plans_are_lawful_lem}
 use Rattle.figures.proofs.Gathering.{placed}
 use Rattle.figures.proofs.search.own_of.Goals as goal
 use Rattle.figures.proofs.search.own_of.Goals.{After-tasks, After-tables}
@@ -23,14 +23,14 @@ table_in c =
     let g = ap length c.tables.ensures in
     omega (arith, p, e, f, g)
 
-pub offset-bounds-points-tasks : goal.offset-bounds-points-tasks
-offset-bounds-points-tasks c = let h = point_in c in search rules
+pub offset_bounds-points-tasks : goal.offset_bounds-points-tasks
+offset_bounds-points-tasks c = let h = point_in c in search rules
 
 pub bounds-points-tasks : goal.bounds-points-tasks
 bounds-points-tasks c = point_in c
 
-pub offset-bounds-tables-point : goal.offset-bounds-tables-point
-offset-bounds-tables-point c = let h = table_in c in search rules
+pub offset_bounds-tables-point : goal.offset_bounds-tables-point
+offset_bounds-tables-point c = let h = table_in c in search rules
 
 pub bounds-tables-point : goal.bounds-tables-point
 bounds-tables-point c = table_in c

@@ -1,41 +1,41 @@
 use Rattle.std.proofs.Common.{◌+◌, ◌≤◌, [], get_or, sym, refl, subst, arith, rules}
 use Rattle.std.proofs.lemmas.Bool.{leb-true}
 use Rattle.figures.specs.Tries.{phase_in}
-use Rattle.figures.proofs.Trying.{Tried, tried_skip, tried_keep, tried_better, reach_ends}
+use Rattle.figures.proofs.Trying.{Tried, tried_skip, tried_keep, tried_better, tried_all, reach_ends}
 use Rattle.figures.proofs.tries.try_choices.Goals as goal
 use Rattle.figures.proofs.tries.try_choices.Goals.{then-figure-worst, else-figure-worst}
 
 pub guess-requires : goal.guess-requires
 guess-requires c = c.choices.invariant.some
 
-pub is-enough-requires : goal.is-enough-requires
-is-enough-requires c = record {
+pub is_enough-requires : goal.is_enough-requires
+is_enough-requires c = record {
   fine = c.requires.can.fine;
   phased = c.requires.can.phased (get_or c.args.choices.now c.choices.choice-index []) (c.choices.choice-index, c.choices-test.true, refl);
   some = c.guess.ensures.some;
   ends = omega (arith, c.guess.ensures.within, c.choices.invariant.ends, c.requires.can.short);
 }
 
-pub choices-preserved-then-is-enough : goal.choices-preserved-then-is-enough
-choices-preserved-then-is-enough c =
+pub choices-preserved-then-is_enough : goal.choices-preserved-then-is_enough
+choices-preserved-then-is_enough c =
     tried_skip c.args.groups.now c.args.choices.now c.args.window c.args.best.worst c.choices.worst c.choices.choice-index c.guess.result
-    c.guess.ensures.some c.guess.ensures.within (leb-true _ _ (sym c.if-is-enough.ensures)) c.choices.invariant
+    c.guess.ensures.some c.guess.ensures.within (leb-true _ _ (sym c.if-is_enough.ensures)) c.choices.invariant
 
-pub is-enough-requires-in-choices : goal.is-enough-requires-in-choices
-is-enough-requires-in-choices c = record {
+pub is_enough-requires-in-choices : goal.is_enough-requires-in-choices
+is_enough-requires-in-choices c = record {
   fine = c.requires.can.fine;
   phased = c.requires.can.phased (get_or c.args.choices.now c.choices.choice-index []) (c.choices.choice-index, c.choices-test.true, refl);
   some = c.choices.invariant.some;
   ends = omega (arith, c.choices.invariant.ends, c.requires.can.short);
 }
 
-pub choices-preserved-then-is-enough-2 : goal.choices-preserved-then-is-enough-2
-choices-preserved-then-is-enough-2 c =
+pub choices-preserved-then-is_enough-2 : goal.choices-preserved-then-is_enough-2
+choices-preserved-then-is_enough-2 c =
     tried_skip c.args.groups.now c.args.choices.now c.args.window c.args.best.worst c.choices.worst c.choices.choice-index c.choices.worst.figure
-    c.choices.invariant.some (omega arith) (leb-true _ _ (sym c.if-is-enough-2.ensures)) c.choices.invariant
+    c.choices.invariant.some (omega arith) (leb-true _ _ (sym c.if-is_enough-2.ensures)) c.choices.invariant
 
-pub overflow-add-end : goal.overflow-add-end
-overflow-add-end c =
+pub overflow_add-end : goal.overflow_add-end
+overflow_add-end c =
     let w = c.args.window in
     let ends : w.tick + c.reach-figure.result ≤ w.limit =
     reach_ends c.args.groups.now c.args.choices.now w c.args.best.worst (phase_in w (get_or c.args.choices.now c.choices.choice-index [])) c.reach-figure.result c.requires.can c.reach-figure.ensures in
@@ -53,3 +53,7 @@ choices-preserved c =
           (tried_keep c.args.groups.now c.args.choices.now c.args.window c.args.best.worst c.choices.worst c.choices.choice-index c.reach-figure.result
           w.if-figure-worst.false c.reach-figure.ensures c.choices.invariant)
     ]
+
+pub returns : goal.returns
+returns c =
+    tried_all c.args.groups.now c.args.choices.now c.args.window c.args.best.worst c.choices.worst c.choices.choice-index (omega arith) c.choices.invariant

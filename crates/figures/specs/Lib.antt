@@ -1,4 +1,3 @@
-pub mod Indexed
 pub mod Loads
 pub mod Reaches
 pub mod Grouped

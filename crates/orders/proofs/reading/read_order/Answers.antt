@@ -6,6 +6,6 @@ use Rattle.orders.proofs.reading.read_order.Goals as goal
 pub returns : goal.returns
 returns c =
     record {
-      meaning = c.order-in.ensures;
-      back = λ o h e. c.order-in.ensures ∙ ap order_of e ∙ reads_back o h;
+      meaning = c.order_in.ensures;
+      back = λ o h e. c.order_in.ensures ∙ ap order_of e ∙ reads_back o h;
     }

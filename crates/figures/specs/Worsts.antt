@@ -6,7 +6,7 @@ use Rattle.theory.specs.Windows.{Choice, Reach, Figure}
 use Rattle.plan.specs.Content.{Content, table_count, task_count, duration_of}
 use Rattle.plan.specs.Rules.{hyperperiod_of, work_of}
 use Rattle.figures.specs.declared.worst.Worst.{Worst}
-use Rattle.figures.specs.Indexed.{plan_of}
+use Rattle.analysis.specs.Bridge.{plan_of}
 
 -- what a list is taken to have past its end
 abbrev pub no_worst : Worst

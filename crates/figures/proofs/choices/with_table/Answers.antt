@@ -8,7 +8,7 @@ loop-point-preserved-then-point-table c =
 pub loop-point-preserved : goal.loop-point-preserved
 loop-point-preserved c =
     spreading_push c.args.points.now c.args.table c.args.choices.now _ _ _ c.loop-point.point-index _ c.loop-choice-test.true c.loop-point-test.true
-    c.if-point-table.false c.from.ensures c.in-ok-push.ensures.items c.loop-point.invariant
+    c.if-point-table.false c.from.ensures c.in_ok-push.ensures.items c.loop-point.invariant
 
 pub loop-choice-preserved : goal.loop-choice-preserved
 loop-choice-preserved c =
