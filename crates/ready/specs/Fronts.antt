@@ -8,13 +8,13 @@ unbeaten beats [] j = true
 unbeaten beats (x ∷ xs) j = not (beats x j) && unbeaten beats xs j
 
 -- The first job of the list that passes.
-abbrev pub first_of : (Job → Bool) → List Job → Option Job
-first_of pass [] = None
-first_of pass (x ∷ xs) = cond (pass x) (Some x) (first_of pass xs)
+abbrev pub first_passing : (Job → Bool) → List Job → Option Job
+first_passing pass [] = None
+first_passing pass (x ∷ xs) = cond (pass x) (Some x) (first_passing pass xs)
 
 -- The first job of the list that no job of the list beats.
 abbrev pub front_of : (Job → Job → Bool) → List Job → Option Job
-front_of beats xs = first_of (unbeaten beats xs) xs
+front_of beats xs = first_passing (unbeaten beats xs) xs
 
 -- What is given, a job or nothing, takes the lead over a front: there is no front, or the job beats it.
 abbrev pub leads : (Job → Job → Bool) → Option Job → Option Job → Bool

@@ -6,7 +6,7 @@ use Rattle.std.specs.Option.{option_to_list}
 use Rattle.std.proofs.lemmas.List.{append-nil}
 use Rattle.std.proofs.lemmas.Bool.{both_ways, cases_Bool, and_parts, and_from, cond-true, cond-false, not-true, not_from_false}
 use Rattle.ready.specs.Calls.{Jobs, FrontBy}
-use Rattle.ready.specs.Fronts.{unbeaten, first_of, front_of, front_with}
+use Rattle.ready.specs.Fronts.{unbeaten, first_passing, front_of, front_with}
 use Rattle.ready.specs.declared.job.Job.{Job}
 
 -- j is one of the list
@@ -30,46 +30,46 @@ in_either (x ∷ xs) ys j (inr h) = ⊎_elim (λ k. inl (inr k)) (λ k. inr k) (
 
 -- ---- the first that passes
 module _ (pass : Job → Bool) where
-  pub first_in : (xs : List Job) (j : Job) → first_of pass xs ≡ Some j → In xs j × (pass j ≡ true)
+  pub first_in : (xs : List Job) (j : Job) → first_passing pass xs ≡ Some j → In xs j × (pass j ≡ true)
   first_in [] j e = let z : ◌≡◌ {A = ℕ} 0 1 = cc in absurd (omega arith)
   first_in (x ∷ xs) j e =
       ⊎_elim
-      (λ h. let is : Some x ≡ Some j = sym (cond-true (pass x) (Some x) (first_of pass xs) h) ∙ e in
+      (λ h. let is : Some x ≡ Some j = sym (cond-true (pass x) (Some x) (first_passing pass xs) h) ∙ e in
       let same : x ≡ j = cc in (inl same, ap pass (sym same) ∙ h))
-      (λ h. let f = first_in xs j (sym (cond-false (pass x) (Some x) (first_of pass xs) h) ∙ e) in (inr f.0, f.1))
+      (λ h. let f = first_in xs j (sym (cond-false (pass x) (Some x) (first_passing pass xs) h) ∙ e) in (inr f.0, f.1))
       (cases_Bool (pass x))
 
-  pub first_none : (xs : List Job) → first_of pass xs ≡ None → (i : Job) → In xs i → pass i ≡ false
+  pub first_none : (xs : List Job) → first_passing pass xs ≡ None → (i : Job) → In xs i → pass i ≡ false
   first_none [] e i h = absurd h
   first_none (x ∷ xs) e i h =
       ⊎_elim
-      (λ k. let is : Some x ≡ None = sym (cond-true (pass x) (Some x) (first_of pass xs) k) ∙ e in
+      (λ k. let is : Some x ≡ None = sym (cond-true (pass x) (Some x) (first_passing pass xs) k) ∙ e in
       let z : ◌≡◌ {A = ℕ} 0 1 = cc in absurd (omega arith))
-      (λ k. ⊎_elim (λ same. ap pass (sym same) ∙ k) (first_none xs (sym (cond-false (pass x) (Some x) (first_of pass xs) k) ∙ e) i) h)
+      (λ k. ⊎_elim (λ same. ap pass (sym same) ∙ k) (first_none xs (sym (cond-false (pass x) (Some x) (first_passing pass xs) k) ∙ e) i) h)
       (cases_Bool (pass x))
 
-  pub none_first : (xs : List Job) → ((i : Job) → In xs i → pass i ≡ false) → first_of pass xs ≡ None
+  pub none_first : (xs : List Job) → ((i : Job) → In xs i → pass i ≡ false) → first_passing pass xs ≡ None
   none_first [] h = refl
-  none_first (x ∷ xs) h = cond-false (pass x) (Some x) (first_of pass xs) (h x (inl refl)) ∙ none_first xs (λ i k. h i (inr k))
+  none_first (x ∷ xs) h = cond-false (pass x) (Some x) (first_passing pass xs) (h x (inl refl)) ∙ none_first xs (λ i k. h i (inr k))
 
   -- the list and one more job
-  pub first_more : (xs : List Job) (y : Job) → first_of pass xs ≡ None → first_of pass (xs ++ y ∷ []) ≡ cond (pass y) (Some y) None
+  pub first_more : (xs : List Job) (y : Job) → first_passing pass xs ≡ None → first_passing pass (xs ++ y ∷ []) ≡ cond (pass y) (Some y) None
   first_more [] y e = refl
   first_more (x ∷ xs) y e =
       let h = first_none (x ∷ xs) e x (inl refl) in
-      cond-false (pass x) (Some x) (first_of pass (xs ++ y ∷ [])) h
-      ∙ first_more xs y (sym (cond-false (pass x) (Some x) (first_of pass xs) h) ∙ e)
+      cond-false (pass x) (Some x) (first_passing pass (xs ++ y ∷ [])) h
+      ∙ first_more xs y (sym (cond-false (pass x) (Some x) (first_passing pass xs) h) ∙ e)
 
   -- under a test that fails wherever this one does, the same job is the first
-  pub first_under : (under : Job → Bool) → ((i : Job) → pass i ≡ false → under i ≡ false) → (xs ys : List Job) (j : Job) → first_of pass xs ≡ Some j → under j ≡ true → first_of under (xs ++ ys) ≡ Some j
+  pub first_under : (under : Job → Bool) → ((i : Job) → pass i ≡ false → under i ≡ false) → (xs ys : List Job) (j : Job) → first_passing pass xs ≡ Some j → under j ≡ true → first_passing under (xs ++ ys) ≡ Some j
   first_under under falls [] ys j e u = let z : ◌≡◌ {A = ℕ} 0 1 = cc in absurd (omega arith)
   first_under under falls (x ∷ xs) ys j e u =
       ⊎_elim
-      (λ h. let is : Some x ≡ Some j = sym (cond-true (pass x) (Some x) (first_of pass xs) h) ∙ e in
+      (λ h. let is : Some x ≡ Some j = sym (cond-true (pass x) (Some x) (first_passing pass xs) h) ∙ e in
       let same : x ≡ j = cc in
-      cond-true (under x) (Some x) (first_of under (xs ++ ys)) (ap under same ∙ u) ∙ is)
-      (λ h. cond-false (under x) (Some x) (first_of under (xs ++ ys)) (falls x h)
-      ∙ first_under under falls xs ys j (sym (cond-false (pass x) (Some x) (first_of pass xs) h) ∙ e) u)
+      cond-true (under x) (Some x) (first_passing under (xs ++ ys)) (ap under same ∙ u) ∙ is)
+      (λ h. cond-false (under x) (Some x) (first_passing under (xs ++ ys)) (falls x h)
+      ∙ first_under under falls xs ys j (sym (cond-false (pass x) (Some x) (first_passing pass xs) h) ∙ e) u)
       (cases_Bool (pass x))
 
 -- ---- the front
