@@ -1,6 +1,6 @@
 -- The backlog of a priority number l and a tick a: what the held jobs have left that are more urgent than l, or have l and were activated by
 -- tick a. In each tick it grows by what is activated and falls by one. Assumes nothing.
-use Rattle.std.proofs.Common.{◌≡◌, ℕ, zero, suc, ◌+◌, ◌-◌, ◌*◌, ◌<◌, ◌≤◌, Bool, true, false, cond, ltb, leb, ◌⊎◌, sym, refl, ap, ◌∙◌, subst, inl, inr, ⊎_elim, add-zero, add-suc, mul-zero, mul-one, arith}
+use Rattle.std.proofs.Common.{◌≡◌, ℕ, zero, suc, ◌+◌, ◌*◌, ◌<◌, ◌≤◌, Bool, true, false, cond, ltb, leb, ◌⊎◌, sym, refl, ap, ◌∙◌, subst, inl, inr, ⊎_elim, add-zero, add-suc, mul-zero, mul-one, arith}
 use Rattle.std.proofs.lemmas.Bool.{cases_eq, cases_lt, eq-eqb, ne_eqb, lt-ltb, le-ltb, ltb-false, le-leb, lt-leb, or_parts, and_cases, cond-true, cond-false, both_ways}
 use Rattle.theory.specs.Counting.{total}
 use Rattle.theory.specs.Plans.{Plan}

@@ -1,5 +1,5 @@
 -- An overloaded plan whose tables all turn has a backlog that grows past all that its tasks can hold; so a job is late. Assumes nothing.
-use Rattle.std.proofs.Common.{◌≡◌, ℕ, suc, ◌+◌, ◌*◌, ◌/◌, ◌<◌, ◌≤◌, ◌⊎◌, sym, ap, ◌∙◌, ⊎_elim, mul_assoc, mul_comm, mul-le-mul_left, zero-add, mul-suc, arith}
+use Rattle.std.proofs.Common.{◌≡◌, ℕ, suc, ◌+◌, ◌*◌, ◌/◌, ◌<◌, ◌≤◌, sym, ap, ◌∙◌, ⊎_elim, mul_assoc, mul_comm, mul-le-mul_left, zero-add, mul-suc, arith}
 use Rattle.theory.specs.Counting.{total}
 use Rattle.theory.specs.Plans.{Plan, Lawful, period, work}
 use Rattle.theory.specs.Runs.{Run, Rounds, Serves, Turns}

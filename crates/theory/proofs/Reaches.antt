@@ -1,5 +1,5 @@
 -- Demand in a window: it never falls, and at the hyperperiod it is at most the work; so there is a reach. Assumes nothing.
-use Rattle.std.proofs.Common.{◌≡◌, ℕ, suc, ◌+◌, ◌-◌, ◌*◌, ◌/◌, ◌%◌, ◌<◌, ◌≤◌, ◌⊎◌, sym, ap, ◌∙◌, inl, inr, ⊎_elim, mod-lt, mul_assoc, mul-le-mul_left, arith}
+use Rattle.std.proofs.Common.{◌≡◌, ℕ, suc, ◌+◌, ◌-◌, ◌*◌, ◌/◌, ◌%◌, ◌<◌, ◌≤◌, sym, ap, ◌∙◌, inl, inr, ⊎_elim, mod-lt, mul_assoc, mul-le-mul_left, arith}
 use native.Mathlib.Nat.{mul-div_assoc, dvd_of_mod-eq-zero, div-mul_cancel, add-mul-div_right, div-eq_of_lt}
 use Rattle.std.proofs.lemmas.Bool.{cases_lt}
 use Rattle.theory.specs.Counting.{total}

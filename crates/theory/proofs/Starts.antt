@@ -1,5 +1,5 @@
 -- Tables that are started once and then turn without pause: they step as a board's do, and turn with any phases from some tick on. Assumes nothing.
-use Rattle.std.proofs.Common.{◌≡◌, ℕ, suc, ◌+◌, ◌-◌, ◌/◌, ◌%◌, ◌<◌, ◌≤◌, Bool, true, ◌&&◌, eqb, leb, ◌⊎◌, sym, ap, ◌∙◌, ⊎_elim, mod-lt, mul-le-mul_left, mul-suc, arith}
+use Rattle.std.proofs.Common.{◌≡◌, ℕ, suc, ◌+◌, ◌-◌, ◌/◌, ◌%◌, ◌<◌, ◌≤◌, Bool, true, ◌&&◌, eqb, leb, sym, ap, ◌∙◌, ⊎_elim, mod-lt, mul-le-mul_left, mul-suc, arith}
 use native.Mathlib.Nat.{div-add-mod, zero-mod, suc-mod}
 use Rattle.std.proofs.lemmas.Bool.{cases_eq, cases_lt, eq-eqb, eqb-true, le-leb, leb-true, and_parts, and_from}
 use Rattle.theory.specs.Plans.{Plan, Lawful}

@@ -1,5 +1,5 @@
 -- A table that moves one position a tick, and begins anew no sooner than its duration allows, keeps the law of rounds. Assumes nothing.
-use Rattle.std.proofs.Common.{◌≡◌, ℕ, zero, suc, ◌+◌, ◌<◌, true, ◌⊎◌, inl, inr, ⊎_elim, arith}
+use Rattle.std.proofs.Common.{◌≡◌, ℕ, zero, suc, ◌+◌, ◌<◌, true, inl, inr, ⊎_elim, arith}
 use Rattle.std.proofs.lemmas.Bool.{cases_order}
 use Rattle.theory.specs.Plans.{Plan}
 use Rattle.theory.specs.Runs.{Run, Steps}
