@@ -1,5 +1,6 @@
 -- Drives keep the laws that the theory supposes. Assumes nothing.
 use Rattle.std.proofs.Common.{◌≡◌, ℕ, zero, suc, ◌-◌, ◌<◌, ◌≤◌, Bool, true, false, cond, ◌&&◌, ◌||◌, eqb, ltb, ◌⊎◌, List, [], ◌∷◌, length, Some, None, Option, sym, refl, ap, ◌∙◌, subst, inl, inr, ⊎_elim, arith}
+use Rattle.std.proofs.lemmas.Option.{same_Some, none-some}
 use Rattle.std.proofs.lemmas.Bool.{and_parts, lt-ltb, ltb-true, ltb-false, eqb-true, eq-eqb, ne_eqb}
 use Rattle.theory.specs.Runs.{Front, Idle, Stays, activated, holds, born}
 use Rattle.plan.specs.Content.{Content, task_count, task_at}
@@ -23,12 +24,6 @@ board_moment [] z τ l = absurd (omega arith)
 board_moment (x ∷ xs) z zero l = refl
 board_moment (x ∷ xs) z (suc τ) l = board_moment xs z τ (omega arith)
 
-some_same : (i j : Job) → Some i ≡ Some j → i ≡ j
-some_same i j e = cc
-
-none_some : {j : Job} → None ≡ Some j → ⊥
-none_some e = let z : ◌≡◌ {A = ℕ} 0 1 = cc in omega arith
-
 -- a job that is held is of its task, below the number of tasks, with the task's priority and ticks left
 pub record Known (c : Content) (k : ℕ) (j : Job) : Type 0 where
   pub task : k < task_count c
@@ -43,7 +38,7 @@ module _ (c : Content) (kept : lawful c ≡ true) where
       go : (b : Bool) → activates c (turned_tables c m) k ≡ b → cond b (Some (new_job c m.ticks k)) (m.jobs k) ≡ Some j → Known c k j
       go true due x =
           let lt = ltb-true k (task_count c) (and_parts _ _ due).0 in
-          subst (Known c k) (some_same _ _ x) (record { task = lt; number = refl; priority = refl; some = ((lawful_from c kept).tasks k lt).runs })
+          subst (Known c k) (same_Some _ _ x) (record { task = lt; number = refl; priority = refl; some = ((lawful_from c kept).tasks k lt).runs })
       go false due x = h k j x
 
   known_served : (m : Model) (front : Option Job) → FrontBy ahead (with_activated c m) front → ((k : ℕ) (j : Job) → m.jobs k ≡ Some j → Known c k j) → (k : ℕ) (j : Job) → with_served c m front k ≡ Some j → Known c k j
@@ -54,13 +49,13 @@ module _ (c : Content) (kept : lawful c ≡ true) where
       go true q true r y =
           let w = known_active m h f.task f x.0 in
           let same = sym (eqb-true f.task k q) in
-          subst (Known c k) (some_same _ _ y) (subst (λ i. Known c i (ticked f)) (sym same) (record { task = w.task; number = refl; priority = w.priority; some = ltb-true 0 _ r }))
-      go true q false r y = absurd (none_some y)
+          subst (Known c k) (same_Some _ _ y) (subst (λ i. Known c i (ticked f)) (sym same) (record { task = w.task; number = refl; priority = w.priority; some = ltb-true 0 _ r }))
+      go true q false r y = absurd (none-some _ y)
       go false q l r y = known_active m h k j y
 
   module _ (moments : List Moment) (z : Model) (s : ServiceOf c moments z) where
     pub known : (τ : ℕ) → τ ≤ length moments → (k : ℕ) (j : Job) → (board_at moments z τ).jobs k ≡ Some j → Known c k j
-    known zero l k j e = absurd (none_some (sym (s.none_first k) ∙ e))
+    known zero l k j e = absurd (none-some _ (sym (s.none_first k) ∙ e))
     known (suc τ) l k j e =
         known_served (moment_of moments τ).board (moment_of moments τ).front (s.first τ l)
         (λ i x y. known τ (omega arith) i x (ap (λ b. b.jobs i) (board_moment moments z τ l) ∙ y)) k j (sym (s.next τ k l) ∙ e)

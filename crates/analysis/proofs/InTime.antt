@@ -1,5 +1,6 @@
 -- On a plan that passes every job is reported finished within its figure. Assumes nothing.
-use Rattle.std.proofs.Common.{◌≡◌, ℕ, zero, suc, ◌+◌, ◌-◌, ◌<◌, ◌≤◌, Bool, true, false, cond, eqb, ltb, List, ◌∷◌, length, get_or, Some, None, Option, sym, refl, ap, ◌∙◌, subst, ⊎_elim, arith}
+use Rattle.std.proofs.Common.{Ok, ◌≡◌, ℕ, zero, suc, ◌+◌, ◌-◌, ◌<◌, ◌≤◌, Bool, true, false, cond, eqb, ltb, List, ◌∷◌, length, get_or, Some, None, Option, sym, refl, ap, ◌∙◌, subst, ⊎_elim, arith}
+use Rattle.std.proofs.lemmas.Option.{same_Some, none-some}
 use Rattle.std.proofs.lemmas.Bool.{eqb-true, eq-eqb, cases_Bool, cases_eq}
 use Rattle.std.specs.Option.{option_map}
 use Rattle.theory.specs.Runs.{Takes, activated, holds, born}
@@ -20,7 +21,7 @@ use Rattle.board.specs.declared.calls.TickAnswer.{TickAnswer}
 use Rattle.board.specs.Models.{Model, start_refusal, stop_refusal, state_refusal, started, stopped}
 use Rattle.board.specs.Refusals.{tick_answer}
 use Rattle.board.specs.Ticks.{turned_tables, activates, late_task, with_activated, with_served}
-use Rattle.board.specs.Drives.{Did, Asked, Moment, Drive, done, asked, idled, answered}
+use Rattle.board.specs.Drives.{Outcome, Did, Asked, Moment, Drive, done, asked, idled, answered}
 use Rattle.board.specs.Laws.{moment_of, ServiceOf}
 use Rattle.board.proofs.ServiceLaw.{service}
 use Rattle.analysis.specs.Bridge.{plan_of, run_of, left_of, since_of}
@@ -29,11 +30,11 @@ use Rattle.analysis.proofs.LawfulPlans.{plans_are_lawful_lem}
 use Rattle.analysis.proofs.BoardRuns.{board_moment, active_is, holds_is, born_is, known_now, after_is, left_less, drives_are_runs_lem}
 
 -- the answers of calls that are no tick are passed over
-did_skips : (o : Option CallRefusal) (m after n : Model) (y a : Answer) (rest : List TickAnswer) → ticked_first y rest ≡ rest → Did o m y after a n → ticked_first a rest ≡ rest
+did_skips : (o : Option CallRefusal) (m after n : Model) (y : Answer) (a : Outcome) (rest : List TickAnswer) → ticked_first (Ok y) rest ≡ rest → Did o m y after a n → ticked_first a rest ≡ rest
 did_skips None m after n y a rest t d = ap (λ x. ticked_first x rest) d.0 ∙ t
 did_skips (Some why) m after n y a rest t d = ap (λ x. ticked_first x rest) d.0
 
-asked_skips : (c : Content) (m n : Model) (call : Call) (a : Answer) (rest : List TickAnswer) → Asked c m call a n → ticked_first a rest ≡ rest
+asked_skips : (c : Content) (m n : Model) (call : Call) (a : Outcome) (rest : List TickAnswer) → Asked c m call a n → ticked_first a rest ≡ rest
 asked_skips c m n (Start t d) a rest x = did_skips (start_refusal c m t d) m (started c m t d) n _ a rest refl x
 asked_skips c m n (Stop t) a rest x = did_skips (stop_refusal c m t) m (stopped m t) n _ a rest refl x
 asked_skips c m n (State t) a rest x = did_skips (state_refusal c t) m m n _ a rest refl x
@@ -48,14 +49,14 @@ abbrev told_at : Content → List Moment → ℕ → TickAnswer
 told_at c moments τ = told_of c moments τ (moment_of moments τ).front
 
 -- there are as many answered ticks as moments, and each tells what its moment says
-record Tells (c : Content) (calls : List (Call × Answer)) (moments : List Moment) : Type 0 where
+record Tells (c : Content) (calls : List (Call × Outcome)) (moments : List Moment) : Type 0 where
   as_many : length (ticks_of calls) ≡ length moments
   tells : (τ : ℕ) → τ < length moments → get_or (ticks_of calls) τ nothing ≡ told_at c moments τ
 
-skipped : (c : Content) (calls : List (Call × Answer)) (moments : List Moment) (rest : List TickAnswer) → rest ≡ ticks_of calls → Tells c calls moments → (length rest ≡ length moments) × ((τ : ℕ) → τ < length moments → get_or rest τ nothing ≡ told_at c moments τ)
+skipped : (c : Content) (calls : List (Call × Outcome)) (moments : List Moment) (rest : List TickAnswer) → rest ≡ ticks_of calls → Tells c calls moments → (length rest ≡ length moments) × ((τ : ℕ) → τ < length moments → get_or rest τ nothing ≡ told_at c moments τ)
 skipped c calls moments rest e t = (ap length e ∙ t.as_many, λ τ l. ap (λ x. get_or x τ nothing) e ∙ t.tells τ l)
 
-drive_tells : (c : Content) {m z : Model} {calls : List (Call × Answer)} {moments : List Moment} → Drive c m calls moments z → Tells c calls moments
+drive_tells : (c : Content) {m z : Model} {calls : List (Call × Outcome)} {moments : List Moment} → Drive c m calls moments z → Tells c calls moments
 drive_tells c done = record { as_many = refl; tells = λ τ l. absurd (omega arith) }
 drive_tells c {m} (asked {n} {call} {a} {calls} {moments} x d) =
     let s = skipped c calls moments _ (asked_skips c m n call a (ticks_of calls) x) (drive_tells c d) in
@@ -68,12 +69,6 @@ drive_tells c {m} (answered {n} {front} {a} {calls} {moments} e t d) =
     at : ((τ : ℕ) → τ < length moments → get_or (ticks_of calls) τ nothing ≡ told_at c moments τ) → (τ : ℕ) → τ < suc (length moments) → get_or (a ∷ ticks_of calls) τ nothing ≡ told_at c (record { board = m; front = front } ∷ moments) τ
     at later zero l = t.told
     at later (suc τ) l = later τ (omega arith)
-
-some_num : (a b : ℕ) → Some a ≡ Some b → a ≡ b
-some_num a b e = cc
-
-none_num : {a : ℕ} → None ≡ Some a → ⊥
-none_num e = let z : ◌≡◌ {A = ℕ} 0 1 = cc in omega arith
 
 module _ (c : Content) (kept : lawful c ≡ true) (moments : List Moment) (z : Model) (s : ServiceOf c moments z) where
   -- a job that is there in a tick and gone after it was served its last tick
@@ -116,17 +111,17 @@ module _ (c : Content) (kept : lawful c ≡ true) (moments : List Moment) (z : M
   told_gone υ t n l sv re = after_is c kept moments z s υ l t ∙ by (moment_of moments υ).front sv re
     where
       by : (o : Option Job) → (told_of c moments υ o).served ≡ Some t → (told_of c moments υ o).response ≡ Some n → left_of (with_served c (moment_of moments υ).board o t) ≡ 0
-      by None a b = absurd (none_num a)
+      by None a b = absurd (none-some _ a)
       by (Some f) a b = go (ltb 0 (f.left - 1)) refl b
         where
           same : eqb f.task t ≡ true
-          same = eq-eqb f.task t (some_num _ _ a)
+          same = eq-eqb f.task t (same_Some _ _ a)
 
           go : (x : Bool) → ltb 0 (f.left - 1) ≡ x → cond x None (Some ((moment_of moments υ).board.ticks + 1 - f.activation)) ≡ Some n → left_of (with_served c (moment_of moments υ).board (Some f) t) ≡ 0
-          go true e y = absurd (none_num y)
+          go true e y = absurd (none-some _ y)
           go false e y = rw (same, e)
 
-  module _ (ok : Sound (plan_of c) (run_of c moments z) (length moments)) (calls : List (Call × Answer)) (t' : Tells c calls moments) where
+  module _ (ok : Sound (plan_of c) (run_of c moments z) (length moments)) (calls : List (Call × Outcome)) (t' : Tells c calls moments) where
     reports : (t τ j : ℕ) → t < task_count c → τ + j ≤ length moments → activates c (turned_tables c (moment_of moments τ).board) t ≡ true → Takes (run_of c moments z) t τ j → (run_of c moments z).left (τ + j) t ≡ 0 → Reported calls t τ j
     reports t τ j lt room due takes gone =
         let υ = τ + j - 1 in

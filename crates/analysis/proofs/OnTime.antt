@@ -1,5 +1,5 @@
 -- On a plan that passes no tick of a drive tells a late task. Assumes nothing.
-use Rattle.std.proofs.Common.{◌≡◌, ℕ, zero, suc, ◌+◌, ◌<◌, Bool, true, false, leb, List, length, Some, None, Option, sym, refl, ap, ◌∙◌, subst, ⊎_elim, arith}
+use Rattle.std.proofs.Common.{Ok, ◌≡◌, ℕ, zero, suc, ◌+◌, ◌<◌, Bool, true, false, leb, List, length, Some, None, Option, sym, refl, ap, ◌∙◌, subst, ⊎_elim, arith}
 use Rattle.std.proofs.lemmas.Bool.{leb-true, cases_Bool}
 use Rattle.theory.specs.Theorems.{Sound}
 use Rattle.theory.proofs.Safety.{safe}
@@ -9,13 +9,13 @@ use Rattle.plan.specs.Rules.{lawful}
 use Rattle.ready.specs.declared.job.Job.{Job}
 use Rattle.board.specs.declared.calls.Call.{Call}
 use Rattle.board.specs.declared.calls.Call.TheVariants.{Start, Stop, State, Tick}
-use Rattle.board.specs.declared.calls.CallRefusal.{CallRefusal}
 use Rattle.board.specs.declared.calls.Answer.{Answer}
+use Rattle.board.specs.declared.calls.CallRefusal.{CallRefusal}
 use Rattle.board.specs.Models.{Model, start_refusal, stop_refusal, state_refusal, started, stopped}
 use Rattle.board.specs.Refusals.{tick_answer}
 use Rattle.board.specs.Ticks.{first_below, past_due, late_task, with_served}
 use Rattle.board.specs.Waits.{activation_of}
-use Rattle.board.specs.Drives.{Did, Asked, Moment, Drive, done, asked, idled, answered}
+use Rattle.board.specs.Drives.{Outcome, Did, Asked, Moment, Drive, done, asked, idled, answered}
 use Rattle.board.specs.Laws.{moment_of, board_at, ServiceOf}
 use Rattle.board.proofs.ServiceLaw.{service}
 use Rattle.analysis.specs.Bridge.{plan_of, run_of, left_of, since_of}
@@ -48,11 +48,11 @@ module _ (c : Content) (kept : lawful c ≡ true) (moments : List Moment) (z : M
       let clock : (moment_of moments τ).board.ticks ≡ τ = sym (ap (λ b. b.ticks) (board_moment moments z τ l)) ∙ s.clock τ (omega arith) in
       rw clock (none_below _ (task_count c) (λ k lt. subst (λ o. past_due (τ + 1) (task_at c k).deadline (activation_of o) ≡ false) (s.next τ k l) (not_past τ k l lt _ refl)))
 
-did_timely : (o : Option CallRefusal) (m after n : Model) (y a : Answer) → Timely y → Did o m y after a n → Timely a
+did_timely : (o : Option CallRefusal) (m after n : Model) (y : Answer) (a : Outcome) → Timely (Ok y) → Did o m y after a n → Timely a
 did_timely None m after n y a t d = subst Timely (sym d.0) t
 did_timely (Some why) m after n y a t d = subst Timely (sym d.0) tt
 
-pub asked_timely : (c : Content) (m n : Model) (call : Call) (a : Answer) → Asked c m call a n → Timely a
+pub asked_timely : (c : Content) (m n : Model) (call : Call) (a : Outcome) → Asked c m call a n → Timely a
 asked_timely c m n (Start t d) a x = did_timely (start_refusal c m t d) m (started c m t d) n _ a tt x
 asked_timely c m n (Stop t) a x = did_timely (stop_refusal c m t) m (stopped m t) n _ a tt x
 asked_timely c m n (State t) a x = did_timely (state_refusal c t) m m n _ a tt x
@@ -62,7 +62,7 @@ late_told : (o : Option Job) (n : ℕ) (l : Option ℕ) → (tick_answer o n l).
 late_told None n l = refl
 late_told (Some j) n l = refl
 
-all_timely : (c : Content) {m z : Model} {calls : List (Call × Answer)} {moments : List Moment} → Drive c m calls moments z → ((τ : ℕ) → τ < length moments → late_task c ((moment_of moments τ).board.ticks + 1) (with_served c (moment_of moments τ).board (moment_of moments τ).front) ≡ None) → AllTimely calls
+all_timely : (c : Content) {m z : Model} {calls : List (Call × Outcome)} {moments : List Moment} → Drive c m calls moments z → ((τ : ℕ) → τ < length moments → late_task c ((moment_of moments τ).board.ticks + 1) (with_served c (moment_of moments τ).board (moment_of moments τ).front) ≡ None) → AllTimely calls
 all_timely c done h = tt
 all_timely c {m} (asked {n} {call} {a} x d) h = (asked_timely c m n call a x, all_timely c d h)
 all_timely c (idled e x d) h = (tt, all_timely c d h)

@@ -11,7 +11,6 @@ use Rattle.ready.specs.Calls.{Jobs}
 use Rattle.ready.specs.Jobs.{fit}
 use Rattle.ready.specs.declared.job.Job.{Job}
 use Rattle.board.specs.declared.records.TableRecord.{TableRecord}
-use Rattle.board.specs.Waits.{Noted}
 use Rattle.board.specs.Ticks.{runs_at, activates, new_job, first_below}
 
 same_side : (t k : ℕ) → (t ≡ k → ⊥) → ltb t k ≡ ltb t (k + 1)
@@ -82,37 +81,27 @@ module _ (c : Content) (records : ℕ → TableRecord) where
       let inside : ltb k (task_count c) ≡ true = lt-ltb k (task_count c) (omega (arith, lt, ap length e)) in
       rw inside (sym (t ∙ rw (s, point)))
 
-  module _ (tick : ℕ) {Q : Type 0} (jobs : Q → Jobs) (whole : Q → Type 0) (q₀ : Q) (s₀ : List ℕ) where
+  module _ (tick : ℕ) {Q : Type 0} (jobs : Q → Jobs) (q₀ : Q) where
     -- no task that is due has a job
     abbrev pub Free : Type 0
     Free = (k : ℕ) → activates c records k ≡ true → jobs q₀ k ≡ None
 
     -- the tasks below k are seen to
-    pub record Upto (k : ℕ) (q : Q) (s : List ℕ) : Type 0 where
-      pub kept : whole q
-      pub noted : Noted (jobs q₀) s₀ → Noted (jobs q) s
-      pub holds : Free → (t : ℕ) → jobs q t ≡ seen c records tick (jobs q₀) k t
+    abbrev pub Upto : ℕ → Q → Type 0
+    Upto k q = Free → (t : ℕ) → jobs q t ≡ seen c records tick (jobs q₀) k t
 
-    pub upto_none : whole q₀ → Upto 0 q₀ s₀
-    upto_none w = record { kept = w; noted = λ h. h; holds = λ f t. seen_none c records tick (jobs q₀) t }
+    pub upto_none : Upto 0 q₀
+    upto_none f t = seen_none c records tick (jobs q₀) t
 
-    pub upto_not : (k : ℕ) (q : Q) (s : List ℕ) → activates c records k ≡ false → Upto k q s → Upto (k + 1) q s
-    upto_not k q s no_due u = record { kept = u.kept; noted = u.noted; holds = λ f t. u.holds f t ∙ seen_not c records tick (jobs q₀) k t no_due }
+    pub upto_not : (k : ℕ) (q : Q) → activates c records k ≡ false → Upto k q → Upto (k + 1) q
+    upto_not k q no_due u f t = u f t ∙ seen_not c records tick (jobs q₀) k t no_due
 
     -- what putting a job into the queue promises
-    pub record Puts (j : Job) (q : Q) (s : List ℕ) (p : Q) (r : List ℕ) : Type 0 where
-      pub put : whole q → fit j ≡ true → jobs q j.task ≡ None → (t : ℕ) → jobs p t ≡ cond (eqb t j.task) (Some j) (jobs q t)
-      pub stays : whole q → whole p
-      pub note : whole q → Noted (jobs q) s → Noted (jobs p) r
+    abbrev pub Puts : Job → Q → Q → Type 0
+    Puts j q p = fit j ≡ true → jobs q j.task ≡ None → (t : ℕ) → jobs p t ≡ cond (eqb t j.task) (Some j) (jobs q t)
 
-    pub upto_due : (k : ℕ) (q p : Q) (s r : List ℕ) (j : Job) → lawful c ≡ true → k < task_count c → activates c records k ≡ true → j ≡ new_job c tick k → Puts j q s p r → Upto k q s → Upto (k + 1) p r
-    upto_due k q p s r j lawfully lt due is' puts u =
-        let puts' = subst (λ i. Puts i q s p r) is' puts in
-        record {
-          kept = puts'.stays u.kept;
-          noted = λ h. puts'.note u.kept (u.noted h);
-          holds = λ f t.
-              let none : jobs q k ≡ None = u.holds f k ∙ seen_free c records tick (jobs q₀) k (f k due) in
-              seen_due c records tick (jobs q₀) k t (jobs p t) due
-              (puts'.put u.kept (new_fits c records tick lawfully k lt) none t ∙ ap (λ o. cond (eqb t k) (Some (new_job c tick k)) o) (u.holds f t));
-        }
+    pub upto_due : (k : ℕ) (q p : Q) (j : Job) → lawful c ≡ true → k < task_count c → activates c records k ≡ true → j ≡ new_job c tick k → Puts j q p → Upto k q → Upto (k + 1) p
+    upto_due k q p j lawfully lt due is' puts u f t =
+        let none : jobs q k ≡ None = u f k ∙ seen_free c records tick (jobs q₀) k (f k due) in
+        seen_due c records tick (jobs q₀) k t (jobs p t) due
+        (subst (λ i. Puts i q p) is' puts (new_fits c records tick lawfully k lt) none t ∙ ap (λ o. cond (eqb t k) (Some (new_job c tick k)) o) (u f t))

@@ -1,5 +1,6 @@
 -- Every call keeps a board sound, and no activated task has a job while none is late. Assumes nothing.
 use Rattle.std.proofs.Common.{◌≡◌, ℕ, zero, suc, ◌+◌, ◌<◌, ◌≤◌, Bool, true, false, cond, not, eqb, ltb, leb, List, [], ◌∷◌, is_some, Some, None, Option, sym, refl, ap, subst, ⊎_elim, le_refl, arith}
+use Rattle.std.proofs.lemmas.Option.{same_Some, none-some}
 use Rattle.std.proofs.lemmas.Bool.{and_parts, not-false, leb-false, ltb-true, ltb-false, eqb-true, cases_eq, both_ways}
 use Rattle.plan.specs.Content.{Content, table_count, task_count, duration_of, table_of, position_of, task_at}
 use Rattle.theory.specs.Counting.{in_range}
@@ -140,12 +141,6 @@ first_none p (suc n) k e lt =
     let x = or_none (first_below n p) (p n) n e in
     ⊎_elim (λ s. subst (λ i. p i ≡ false) (sym s) x.1) (λ s. first_none p n k x.0 (omega (arith, lt, s))) (cases_eq k n)
 
-some_same : (i j : Job) → Some i ≡ Some j → i ≡ j
-some_same i j e = cc
-
-none_some : {j : Job} → None ≡ Some j → ⊥
-none_some e = let z : ◌≡◌ {A = ℕ} 0 1 = cc in omega arith
-
 module _ (c : Content) (kept : lawful c ≡ true) (m : Model) (h : Sound c m) (on_time : m.late ≡ None) where
   law : Lawful c
   law = lawful_from c kept
@@ -216,7 +211,7 @@ module _ (c : Content) (kept : lawful c ≡ true) (m : Model) (h : Sound c m) (o
   activated_midway k j e = go (activates c (turned_tables c m) k) refl e
     where
       go : (b : Bool) → activates c (turned_tables c m) k ≡ b → cond b (Some (new_job c m.ticks k)) (m.jobs k) ≡ Some j → Midway k j
-      go true due x = subst (Midway k) (some_same _ _ x) (new_midway k due)
+      go true due x = subst (Midway k) (same_Some _ _ x) (new_midway k due)
       go false due x = old_midway k j x
 
   module _ (front : Option Job) (first : FrontBy ahead (with_activated c m) front) where
@@ -241,9 +236,9 @@ module _ (c : Content) (kept : lawful c ≡ true) (m : Model) (h : Sound c m) (o
           where
             go : (b : Bool) → eqb f.task k ≡ b → (l : Bool) → ltb 0 (ticked f).left ≡ l → cond b (cond l (Some (ticked f)) None) (with_activated c m k) ≡ Some j → Midway k j
             go true q true r y =
-                subst (Midway k) (some_same _ _ y)
+                subst (Midway k) (same_Some _ _ y)
                 (subst (λ i. Midway i (ticked f)) (eqb-true f.task k q) (ticked_midway f (ltb-true 0 _ r) (activated_midway f.task f x.0)))
-            go true q false r y = absurd (none_some y)
+            go true q false r y = absurd (none-some _ y)
             go false q l r y = activated_midway k j y
 
     pub sound_tick : Sound c (after_tick c m front)

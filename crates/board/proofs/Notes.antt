@@ -1,5 +1,6 @@
 -- The note of activation ticks stays right over puts and serves. Assumes nothing.
 use Rattle.std.proofs.Common.{◌≡◌, ℕ, ◌<◌, Bool, true, false, cond, eqb, ltb, List, length, get_or, set, is_some, is_ok, Some, None, Ok, Err, Option, Result, sym, refl, ap, ◌∙◌, subst, arith}
+use Rattle.std.proofs.lemmas.Option.{same_Some, none-some}
 use Rattle.std.proofs.lemmas.List.{get_or-set_same, get_or-set_other}
 use Rattle.std.proofs.lemmas.Bool.{eqb-true, eqb-false, both_ways}
 use Rattle.std.proofs.lemmas.Bool.Decides.{nat_tests}
@@ -9,12 +10,6 @@ use Rattle.ready.specs.Calls.{Jobs, FrontBy, put_number, after_put, after_serve}
 use Rattle.ready.specs.declared.job.Job.{Job}
 use Rattle.ready.specs.declared.refusal.PutRefusal.{PutRefusal}
 use Rattle.board.specs.Waits.{Noted, activation_of}
-
-some_same : (i j : Job) → Some i ≡ Some j → i ≡ j
-some_same i j e = cc
-
-none_some : (j : Job) → None ≡ Some j → ⊥
-none_some j e = let z : ◌≡◌ {A = ℕ} 0 1 = cc in omega arith
 
 pub noted_tells : (js : Jobs) (since : List ℕ) (t : ℕ) → Noted js since → is_some (js t) ≡ true → Some (get_or since t 0) ≡ activation_of (js t)
 noted_tells js since t h s = go (js t) refl s
@@ -29,8 +24,8 @@ served_from js None t j f e = (j, e, refl)
 served_from js (Some i) t j f e = go (eqb i.task t) refl (ltb 0 (ticked i).left) e
   where
     go : (b : Bool) → eqb i.task t ≡ b → (l : Bool) → cond b (cond l (Some (ticked i)) None) (js t) ≡ Some j → (k : Job) × (js t ≡ Some k) × (j.activation ≡ k.activation)
-    go true q true x = (i, subst (λ n. js n ≡ Some i) (eqb-true _ _ q) f.0, sym (ap (λ k. k.activation) (some_same _ _ x)))
-    go true q false x = absurd (none_some j x)
+    go true q true x = (i, subst (λ n. js n ≡ Some i) (eqb-true _ _ q) f.0, sym (ap (λ k. k.activation) (same_Some _ _ x)))
+    go true q false x = absurd (none-some _ x)
     go false q l x = (j, x, refl)
 
 pub noted_served : (js ks : Jobs) (since : List ℕ) (front : Option Job) → FrontBy ahead js front → ((t : ℕ) → ks t ≡ after_serve js front t) → Noted js since → Noted ks since
@@ -53,5 +48,5 @@ pub noted_put : (js ks : Jobs) (since : List ℕ) (j : Job) → j.task < length 
 noted_put js ks since j lt free is h t k e = go (eqb t j.task) refl (sym (put_free js j t free) ∙ sym (is t) ∙ e)
   where
     go : (b : Bool) → eqb t j.task ≡ b → cond b (Some j) (js t) ≡ Some k → get_or (set since j.task j.activation) t 0 ≡ k.activation
-    go true q x = subst (λ n. get_or (set since j.task j.activation) n 0 ≡ k.activation) (sym (eqb-true _ _ q)) (get_or-set_same since j.task j.activation 0 lt ∙ ap (λ i. i.activation) (some_same _ _ x))
+    go true q x = subst (λ n. get_or (set since j.task j.activation) n 0 ≡ k.activation) (sym (eqb-true _ _ q)) (get_or-set_same since j.task j.activation 0 lt ∙ ap (λ i. i.activation) (same_Some _ _ x))
     go false q x = get_or-set_other since j.task t j.activation 0 (eqb-false _ _ q) ∙ h t k x

@@ -15,18 +15,18 @@ use Rattle.board.specs.declared.calls.Answer.{Answer}
 use Rattle.board.specs.Models.{Model, start_refusal, stop_refusal, state_refusal, started, stopped, with_table, beginning}
 use Rattle.board.specs.Ticks.{tick_refusal, turned_state, begun, turned_tables, runs_at, Ticked}
 use Rattle.board.specs.Soundness.{TableSound, Spaced, Sound}
-use Rattle.board.specs.Drives.{Did, Asked, Moment, Drive, done, asked, idled, answered}
+use Rattle.board.specs.Drives.{Outcome, Did, Asked, Moment, Drive, done, asked, idled, answered}
 use Rattle.board.specs.Laws.{RunsIn, Rounds}
 use Rattle.board.proofs.Keeping.{alike_path, may_start, may_tick, sound_fresh, sound_tick}
 use Rattle.board.proofs.Calling.{asked_sound}
 use Rattle.board.proofs.Spacing.{turn_sound, turn_spaced, new_spaced, stop_spaced, start_spaced}
 
 -- a call that is no tick leaves clock and, of each table, its state, or stops it, or lets it wait
-did_ticks : (o : Option CallRefusal) (m after n : Model) (y a : Answer) → after.ticks ≡ m.ticks → Did o m y after a n → n.ticks ≡ m.ticks
+did_ticks : (o : Option CallRefusal) (m after n : Model) (y : Answer) (a : Outcome) → after.ticks ≡ m.ticks → Did o m y after a n → n.ticks ≡ m.ticks
 did_ticks None m after n y a same d = d.1.ticks ∙ same
 did_ticks (Some why) m after n y a same d = d.1.ticks
 
-pub asked_ticks : (c : Content) (m n : Model) (call : Call) (a : Answer) → Asked c m call a n → n.ticks ≡ m.ticks
+pub asked_ticks : (c : Content) (m n : Model) (call : Call) (a : Outcome) → Asked c m call a n → n.ticks ≡ m.ticks
 asked_ticks c m n (Start t d) a x = did_ticks (start_refusal c m t d) m (started c m t d) n _ a refl x
 asked_ticks c m n (Stop t) a x = did_ticks (stop_refusal c m t) m (stopped m t) n _ a refl x
 asked_ticks c m n (State t) a x = did_ticks (state_refusal c t) m m n _ a refl x
@@ -37,7 +37,7 @@ module _ (c : Content) (i : ℕ) (lt : i < table_count c) where
   abbrev Before : ℕ → ℕ → Model → Type 0
   Before a p m = Spaced a p m.ticks (duration_of c i) (m.tables i).earliest (m.tables i).state
 
-  did_before : (o : Option CallRefusal) (m after n : Model) (y a : Answer) (b p : ℕ) → (o ≡ None → Before b p after) → Before b p m → Did o m y after a n → Before b p n
+  did_before : (o : Option CallRefusal) (m after n : Model) (y : Answer) (a : Outcome) (b p : ℕ) → (o ≡ None → Before b p after) → Before b p m → Did o m y after a n → Before b p n
   did_before None m after n y a b p s h d = subst (Before b p) (sym (alike_path d.1)) (s refl)
   did_before (Some why) m after n y a b p s h d = subst (Before b p) (sym (alike_path d.1)) h
 
@@ -48,7 +48,7 @@ module _ (c : Content) (i : ℕ) (lt : i < table_count c) where
       go true e = new (eqb-true i t e)
       go false e = old
 
-  asked_before : (m n : Model) (call : Call) (a : Answer) (b p : ℕ) → Sound c m → Asked c m call a n → Before b p m → Before b p n
+  asked_before : (m n : Model) (call : Call) (a : Outcome) (b p : ℕ) → Sound c m → Asked c m call a n → Before b p m → Before b p n
   asked_before m n (Start t d) a b p s x h =
       did_before (start_refusal c m t d) m (started c m t d) n _ a b p
       (λ none.
@@ -84,7 +84,7 @@ module _ (c : Content) (i : ℕ) (lt : i < table_count c) where
     after_before m n front b p t h = subst (Before b p) (sym (alike_path t.after)) h
 
     -- every later round of the table keeps its distance
-    later : {m z : Model} {calls : List (Call × Answer)} {moments : List Moment} → Drive c m calls moments z → (b p : ℕ) → Sound c m → Before b p m → (τ q : ℕ) → τ < length moments → RunsIn c moments i τ q → Far b q (m.ticks + τ) p
+    later : {m z : Model} {calls : List (Call × Outcome)} {moments : List Moment} → Drive c m calls moments z → (b p : ℕ) → Sound c m → Before b p m → (τ q : ℕ) → τ < length moments → RunsIn c moments i τ q → Far b q (m.ticks + τ) p
     later done b p s h τ q l at = absurd (omega arith)
     later {m} (asked {n} {call} {a} x d) b p s h τ q l at =
         subst (λ t. Far b q (t + τ) p) (asked_ticks c m n call a x) (later d b p (asked_sound c m n call a s x) (asked_before m n call a b p s x h) τ q l at)
@@ -109,7 +109,7 @@ module _ (c : Content) (i : ℕ) (lt : i < table_count c) where
     new_before m q s at = (new_spaced m.ticks (duration_of c i) (turned_tables c m i).earliest m.ticks q (turned_tables c m i).state (now_sound m s) at refl).1
 
     -- any two rounds in a drive
-    between : {m z : Model} {calls : List (Call × Answer)} {moments : List Moment} → Drive c m calls moments z → Sound c m → (τ υ q r : ℕ) → τ ≤ υ → υ < length moments → RunsIn c moments i τ q → RunsIn c moments i υ r → Far τ r υ q
+    between : {m z : Model} {calls : List (Call × Outcome)} {moments : List Moment} → Drive c m calls moments z → Sound c m → (τ υ q r : ℕ) → τ ≤ υ → υ < length moments → RunsIn c moments i τ q → RunsIn c moments i υ r → Far τ r υ q
     between done s τ υ q r le l at at' = absurd (omega arith)
     between {m} (asked {n} {call} {a} x d) s τ υ q r le l at at' = between d (asked_sound c m n call a s x) τ υ q r le l at at'
     between {m} (idled {n} e x d) s τ υ q r le l at at' = between d (subst (Sound c) (sym (alike_path x)) s) τ υ q r le l at at'
@@ -127,7 +127,7 @@ module _ (c : Content) (i : ℕ) (lt : i < table_count c) where
     runs_sound n e q (Running r) at h = let same = eqb-true r q at in (omega (arith, same, h.1), omega (arith, same, h.0))
 
     -- a round began at tick 0 or later, and its positions lie within the table
-    starts : {m z : Model} {calls : List (Call × Answer)} {moments : List Moment} → Drive c m calls moments z → Sound c m → (τ q : ℕ) → τ < length moments → RunsIn c moments i τ q → (q ≤ m.ticks + τ) × (q < duration_of c i)
+    starts : {m z : Model} {calls : List (Call × Outcome)} {moments : List Moment} → Drive c m calls moments z → Sound c m → (τ q : ℕ) → τ < length moments → RunsIn c moments i τ q → (q ≤ m.ticks + τ) × (q < duration_of c i)
     starts done s τ q l at = absurd (omega arith)
     starts {m} (asked {n} {call} {a} x d) s τ q l at =
         let r = starts d (asked_sound c m n call a s x) τ q l at in (omega (arith, r.0, asked_ticks c m n call a x), r.1)
@@ -139,7 +139,7 @@ module _ (c : Content) (i : ℕ) (lt : i < table_count c) where
         let r = starts d (after_sound m n front s e t) τ q (omega arith) at in (omega (arith, r.0, t.after.ticks), r.1)
 
   -- only a tick makes a table run
-  did_runs : (o : Option CallRefusal) (m after n : Model) (y a : Answer) (q : ℕ) → ((after.tables i).state ≡ Running q → (m.tables i).state ≡ Running q) → Did o m y after a n → (n.tables i).state ≡ Running q → (m.tables i).state ≡ Running q
+  did_runs : (o : Option CallRefusal) (m after n : Model) (y : Answer) (a : Outcome) (q : ℕ) → ((after.tables i).state ≡ Running q → (m.tables i).state ≡ Running q) → Did o m y after a n → (n.tables i).state ≡ Running q → (m.tables i).state ≡ Running q
   did_runs None m after n y a q s d e = s (ap (λ r. r.state) (sym (d.1.tables i)) ∙ e)
   did_runs (Some why) m after n y a q s d e = ap (λ r. r.state) (sym (d.1.tables i)) ∙ e
 
@@ -150,7 +150,7 @@ module _ (c : Content) (i : ℕ) (lt : i < table_count c) where
       go true e = absurd (no_run e)
       go false e = e
 
-  asked_runs : (m n : Model) (call : Call) (a : Answer) (q : ℕ) → Asked c m call a n → (n.tables i).state ≡ Running q → (m.tables i).state ≡ Running q
+  asked_runs : (m n : Model) (call : Call) (a : Outcome) (q : ℕ) → Asked c m call a n → (n.tables i).state ≡ Running q → (m.tables i).state ≡ Running q
   asked_runs m n (Start t d) a q x = did_runs (start_refusal c m t d) m (started c m t d) n _ a q (with_runs m t q _ (waits d q)) x
     where
       waits : (d q : ℕ) → Waiting d ≡ Running q → ⊥
@@ -185,7 +185,7 @@ module _ (c : Content) (i : ℕ) (lt : i < table_count c) where
   ran_on m front moments zero q y = y
   ran_on m front moments (suc τ) q y = y
 
-  moved : {m z : Model} {calls : List (Call × Answer)} {moments : List Moment} → Drive c m calls moments z → (P : ℕ → Type 0) → ((q : ℕ) → (m.tables i).state ≡ Running q → P q) → (τ q : ℕ) → τ < length moments → RunsIn c moments i τ (suc q) → Ran P moments τ q
+  moved : {m z : Model} {calls : List (Call × Outcome)} {moments : List Moment} → Drive c m calls moments z → (P : ℕ → Type 0) → ((q : ℕ) → (m.tables i).state ≡ Running q → P q) → (τ q : ℕ) → τ < length moments → RunsIn c moments i τ (suc q) → Ran P moments τ q
   moved done P h τ q l at = absurd (omega arith)
   moved {m} (asked {n} {call} {a} x d) P h τ q l at = moved d P (λ r e. h r (asked_runs m n call a r x e)) τ q l at
   moved {m} (idled {n} e x d) P h τ q l at = moved d P (λ r y. h r (ap (λ b. b.state) (sym (x.tables i)) ∙ y)) τ q l at

@@ -12,18 +12,18 @@ use Rattle.board.specs.declared.calls.Answer.{Answer}
 use Rattle.board.specs.Models.{Model, start_refusal, stop_refusal, state_refusal, started, stopped}
 use Rattle.board.specs.Ticks.{turned_tables, activates, with_activated, with_served, Ticked}
 use Rattle.board.specs.Soundness.{Sound}
-use Rattle.board.specs.Drives.{Did, Asked, Moment, Drive, done, asked, idled, answered}
+use Rattle.board.specs.Drives.{Outcome, Did, Asked, Moment, Drive, done, asked, idled, answered}
 use Rattle.board.specs.Laws.{moment_of, board_at, Service}
 use Rattle.board.proofs.Keeping.{alike_path, may_tick, due_free, sound_fresh, sound_tick}
 use Rattle.board.proofs.Calling.{asked_sound}
 use Rattle.board.proofs.RunLaws.{asked_ticks}
 
 -- a call that is no tick leaves the jobs as they are
-did_jobs : (o : Option CallRefusal) (m after n : Model) (y a : Answer) → ((t : ℕ) → after.jobs t ≡ m.jobs t) → Did o m y after a n → (t : ℕ) → n.jobs t ≡ m.jobs t
+did_jobs : (o : Option CallRefusal) (m after n : Model) (y : Answer) (a : Outcome) → ((t : ℕ) → after.jobs t ≡ m.jobs t) → Did o m y after a n → (t : ℕ) → n.jobs t ≡ m.jobs t
 did_jobs None m after n y a same d t = d.1.jobs t ∙ same t
 did_jobs (Some why) m after n y a same d t = d.1.jobs t
 
-asked_jobs : (c : Content) (m n : Model) (call : Call) (a : Answer) → Asked c m call a n → (t : ℕ) → n.jobs t ≡ m.jobs t
+asked_jobs : (c : Content) (m n : Model) (call : Call) (a : Outcome) → Asked c m call a n → (t : ℕ) → n.jobs t ≡ m.jobs t
 asked_jobs c m n (Start t d) a x = did_jobs (start_refusal c m t d) m (started c m t d) n _ a (λ _. refl) x
 asked_jobs c m n (Stop t) a x = did_jobs (stop_refusal c m t) m (stopped m t) n _ a (λ _. refl) x
 asked_jobs c m n (State t) a x = did_jobs (state_refusal c t) m m n _ a (λ _. refl) x
@@ -71,7 +71,7 @@ ticked_on c m n z front moments t free s = record { clock = clock'; start = λ x
     next' (suc τ) x l = s.next τ x (omega arith)
 
 module _ (c : Content) (kept : lawful c ≡ true) where
-  serves : {m z : Model} {calls : List (Call × Answer)} {moments : List Moment} → Drive c m calls moments z → Sound c m → Serves c m moments z
+  serves : {m z : Model} {calls : List (Call × Outcome)} {moments : List Moment} → Drive c m calls moments z → Sound c m → Serves c m moments z
   serves {m} done s = record { clock = λ τ l. omega arith; start = λ t. refl; put = λ τ k l due. absurd (omega arith); first = λ τ l. absurd (omega arith); next = λ τ t l. absurd (omega arith) }
   serves {m} {z} (asked {n} {call} {a} x d) s = carried c m n z _ (asked_ticks c m n call a x) (asked_jobs c m n call a x) (serves d (asked_sound c m n call a s x))
   serves {m} {z} (idled {n} e x d) s = carried c m n z _ x.ticks x.jobs (serves d (subst (Sound c) (sym (alike_path x)) s))

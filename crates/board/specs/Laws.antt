@@ -5,10 +5,9 @@ use Rattle.plan.specs.Rules.{lawful}
 use Rattle.ready.specs.Calls.{FrontBy}
 use Rattle.ready.specs.Jobs.{ahead}
 use Rattle.board.specs.declared.calls.Call.{Call}
-use Rattle.board.specs.declared.calls.Answer.{Answer}
 use Rattle.board.specs.Models.{Model, fresh}
 use Rattle.board.specs.Ticks.{turned_tables, runs_at, activates, with_activated, with_served}
-use Rattle.board.specs.Drives.{Moment, Drive}
+use Rattle.board.specs.Drives.{Outcome, Moment, Drive}
 
 abbrev pub no_moment : Moment
 no_moment = record { board = fresh; front = None }
@@ -45,7 +44,7 @@ pub record ServiceOf (c : Content) (moments : List Moment) (z : Model) : Type 0 
 
 -- the laws, of every drive of a new board on a plan that keeps the rules
 abbrev pub Rounds : Type 0
-Rounds = (c : Content) → lawful c ≡ true → (calls : List (Call × Answer)) (moments : List Moment) (z : Model) → Drive c fresh calls moments z → (i : ℕ) → i < table_count c → RoundsOf c moments i
+Rounds = (c : Content) → lawful c ≡ true → (calls : List (Call × Outcome)) (moments : List Moment) (z : Model) → Drive c fresh calls moments z → (i : ℕ) → i < table_count c → RoundsOf c moments i
 
 abbrev pub Service : Type 0
-Service = (c : Content) → lawful c ≡ true → (calls : List (Call × Answer)) (moments : List Moment) (z : Model) → Drive c fresh calls moments z → ServiceOf c moments z
+Service = (c : Content) → lawful c ≡ true → (calls : List (Call × Outcome)) (moments : List Moment) (z : Model) → Drive c fresh calls moments z → ServiceOf c moments z

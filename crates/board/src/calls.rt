@@ -5,7 +5,7 @@ ghost use Rattle.board.specs.Refusals.{number_of, state_number, tick_answer};
 use crate::records::TableState;
 use ready::job::Job;
 
-#[derive(Clone, Copy)]
+#[derive(Clone, Copy, Debug, PartialEq, Eq)]
 pub enum Call {
     Start { table: usize, delay: u32 },
     Stop { table: usize },
@@ -13,56 +13,51 @@ pub enum Call {
     Tick,
 }
 
-#[derive(Clone, Copy)]
+#[derive(Clone, Copy, Debug, PartialEq, Eq)]
 pub enum CallRefusal {
     // A job is late: the board answers only questions.
-    LateBoard,
-    NoTable,
+    LateBoard = 32,
+    NoTable = 3,
     // Start of a table that waits or runs.
-    NotStopped,
+    NotStopped = 7,
     // Stop of a table that is stopped.
-    NotStarted,
-    BadDelay,
+    NotStarted = 5,
+    BadDelay = 8,
     // The round would begin before its table may begin one.
-    TooEarly,
-    ClockFull,
+    TooEarly = 31,
+    ClockFull = 33,
 }
 
 // What a tick tells: the task served, its response if that job finished, and the lowest late task.
-#[derive(Clone, Copy)]
+#[derive(Clone, Copy, Debug, PartialEq, Eq)]
 pub struct TickAnswer {
     pub served: Option<usize>,
     pub response: Option<u32>,
     pub late: Option<usize>,
 }
 
-#[derive(Clone, Copy)]
+// What a call that is not refused tells.
+#[derive(Clone, Copy, Debug, PartialEq, Eq)]
 pub enum Answer {
     Done,
-    Refused { why: CallRefusal },
     State { state: TableState },
     Ticked { told: TickAnswer },
 }
+
+// How a call is answered: what it tells, or why it is refused.
+pub type Outcome = Result<Answer, CallRefusal>;
 
 impl CallRefusal {
     // The number by which the refusal is reported.
     pub fn number(self) -> u8
         ensures { result ≡ number_of self }
     {
-        match self {
-            CallRefusal::LateBoard => 32,
-            CallRefusal::NoTable => 3,
-            CallRefusal::NotStopped => 7,
-            CallRefusal::NotStarted => 5,
-            CallRefusal::BadDelay => 8,
-            CallRefusal::TooEarly => 31,
-            CallRefusal::ClockFull => 33,
-        }
+        self as u8
     }
 }
 
 impl TableState {
-    // The number by which the state is reported.
+    // The number by which the state is reported. By cases, since two of them hold a value.
     pub fn number(self) -> u8
         ensures { result ≡ state_number self }
     {
@@ -79,23 +74,11 @@ impl TickAnswer {
     pub(crate) fn new(served: Option<Job>, made: u32, late: Option<usize>) -> TickAnswer
         ensures { result ≡ tick_answer served made late }
     {
-        let Some(job) = served else {
-            return TickAnswer {
-                served: None,
-                response: None,
-                late,
-            };
-        };
-        if job.left > 0 {
-            return TickAnswer {
-                served: Some(job.task),
-                response: None,
-                late,
-            };
-        }
         TickAnswer {
-            served: Some(job.task),
-            response: Some(made.saturating_sub(job.activation)),
+            served: served.map(|job| job.task),
+            response: served
+                .filter(|job| job.left == 0)
+                .map(|job| made.saturating_sub(job.activation)),
             late,
         }
     }

@@ -13,7 +13,7 @@ mod ticks;
 mod waiting;
 
 pub use boards::Board;
-pub use calls::{Answer, Call, CallRefusal, TickAnswer};
+pub use calls::{Answer, Call, CallRefusal, Outcome, TickAnswer};
 pub use drives::drive;
 pub use laws::{rounds_stand, service_stands};
 pub use records::{TableRecord, TableState};

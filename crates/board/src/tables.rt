@@ -1,5 +1,6 @@
 // The records of all tables, one of which is lent to be changed at each step.
-ghost use Rattle.std.specs.Prelude.{◌≡◌, ℕ, ◌+◌, ◌^◌, ◌<◌, ◌≤◌, length, if◌then◌else◌, nat_eq, slice_index_or};
+ghost use Rattle.std.specs.Prelude.{◌≡◌, ℕ, ◌+◌, ◌^◌, ◌<◌, ◌≤◌, length, ◌≢◌, slice_index_or};
+ghost use Rattle.std.specs.Fn.{FnOnceReturnsAtMut};
 ghost use Rattle.plan.specs.Content.{duration_of, no_table};
 ghost use Rattle.plan.specs.Limits.{max_tables};
 ghost use Rattle.plan.specs.Plans.{content};
@@ -12,20 +13,21 @@ use plan::{MAX_TABLES, Plan, Table};
 
 #[derive(Drop)]
 pub(crate) struct Tables {
+    // An array: there is one for each table that any plan may have, and none comes or goes.
     pub(crate) records: [TableRecord; MAX_TABLES],
     ghost full: { length records ≡ max_tables },
 }
 
 impl TableRecord {
     // Waits so many ticks for a round, the next of which may begin at the earliest tick given.
-    fn start(&mut self, delay: u32, earliest: u32)
+    pub(crate) fn start(&mut self, delay: u32, earliest: u32)
         ensures { self.new ≡ waiting_for delay earliest }
     {
         self.state = TableState::Waiting { ticks: delay };
         self.earliest = earliest;
     }
 
-    fn stop(&mut self)
+    pub(crate) fn stop(&mut self)
         ensures { self.new ≡ stopped_at self.old.earliest }
     {
         self.state = TableState::Stopped;
@@ -59,12 +61,8 @@ impl Tables {
     pub(crate) fn new() -> Tables
         ensures { (i : ℕ) → record_of result.records i ≡ at_rest }
     {
-        let rest = TableRecord {
-            state: TableState::Stopped,
-            earliest: 0,
-        };
         Tables {
-            records: [rest; MAX_TABLES],
+            records: [TableRecord::REST; MAX_TABLES],
         }
     }
 
@@ -72,39 +70,20 @@ impl Tables {
     pub(crate) fn record_of(&self, table: usize) -> TableRecord
         ensures { result ≡ record_of self.now.records table }
     {
-        if table >= MAX_TABLES {
-            return TableRecord {
-                state: TableState::Stopped,
-                earliest: 0,
-            };
-        }
-        self.records[table]
+        self.records
+            .get(table)
+            .copied()
+            .unwrap_or(TableRecord::REST)
     }
 
-    pub(crate) fn start(&mut self, table: usize, delay: u32, earliest: u32)
-        requires { table < max_tables }
-        ensures { (i : ℕ) → record_of self.new.records i ≡ (if nat_eq i table then waiting_for delay earliest else record_of self.old.records i) }
-    {
-        let record = &mut self.records[table];
-        record.start(delay, earliest);
-    }
-
-    pub(crate) fn stop(&mut self, table: usize)
-        requires { table < max_tables }
-        ensures { (i : ℕ) → record_of self.new.records i ≡ (if nat_eq i table then stopped_at (record_of self.old.records table).earliest else record_of self.old.records i) }
-    {
-        let record = &mut self.records[table];
-        record.stop();
-    }
-
-    // One tick of one table.
-    fn turn(&mut self, table: usize, tick: u32, duration: u16)
+    // Changes the record of one table, which is lent to the change for that.
+    pub(crate) fn change<F: FnOnce(&mut TableRecord)>(&mut self, table: usize, change: F)
         requires within { table < max_tables }
-        requires clock { tick ≤ max_ticks }
-        ensures { (i : ℕ) → record_of self.new.records i ≡ (if nat_eq i table then turned tick duration (record_of self.old.records table) else record_of self.old.records i) }
+        requires callable { F.IsAlwaysCallable change }
+        ensures here { FnOnceReturnsAtMut F.FnOnce change (record_of self.old.records table) tt (record_of self.new.records table) }
+        ensures others { (i : ℕ) → i ≢ table → record_of self.new.records i ≡ record_of self.old.records i }
     {
-        let record = &mut self.records[table];
-        record.turn(tick, duration);
+        change(&mut self.records[table]);
     }
 
     // One tick of every table.
@@ -112,8 +91,10 @@ impl Tables {
         requires { tick ≤ max_ticks }
         ensures { (i : ℕ) → record_of self.new.records i ≡ turned tick (duration_of (content plan.now) i) (record_of self.old.records i) }
     {
+        // By their numbers: nothing is known of what is written behind an adapter of `iter_mut`.
         for table in 0..MAX_TABLES {
-            self.turn(table, tick, duration_of(plan.tables(), table));
+            let duration = duration_of(plan.tables(), table);
+            self.change(table, |record| record.turn(tick, duration));
         }
     }
 }
@@ -122,8 +103,5 @@ impl Tables {
 pub(crate) fn duration_of(tables: &[Table], table: usize) -> u16
     ensures { result ≡ (slice_index_or tables.now table no_table).duration }
 {
-    if table >= tables.len() {
-        return 0;
-    }
-    tables[table].duration
+    tables.get(table).map_or(0, |t| t.duration)
 }

@@ -4,7 +4,6 @@ ghost use Rattle.plan.specs.Content.{no_point};
 ghost use Rattle.plan.specs.Plans.{content};
 ghost use Rattle.board.specs.Records.{record_of};
 ghost use Rattle.board.specs.Ticks.{runs_at, activates, new_job, past_due, late_task};
-ghost use Rattle.board.specs.Waits.{Noted};
 
 use crate::records::TableState;
 use crate::tables::Tables;
@@ -18,9 +17,8 @@ impl TableState {
     fn is_at(self, at: u16) -> bool
         ensures { result ≡ runs_at at self }
     {
-        match self {
-            TableState::Running { position } => position == u32::from(at),
-            _ => false,
+        self == TableState::Running {
+            position: u32::from(at),
         }
     }
 }
@@ -29,13 +27,10 @@ impl TableState {
 fn point_at(points: &[Point], index: usize) -> Point
     ensures { result ≡ slice_index_or points.now index no_point }
 {
-    if index >= points.len() {
-        return Point {
-            table: 0,
-            position: 0,
-        };
-    }
-    points[index]
+    points.get(index).copied().unwrap_or(Point {
+        table: 0,
+        position: 0,
+    })
 }
 
 // Whether a job of that activation is late when so many ticks are made.
@@ -43,22 +38,15 @@ fn is_overdue(activation: Option<u32>, deadline: u16, made: u32) -> bool
     ensures { result ≡ past_due made deadline activation }
 {
     let deadline = u32::from(deadline);
-    match activation {
-        Some(tick) => deadline <= made && tick <= made - deadline,
-        None => false,
-    }
+    activation.is_some_and(|tick| deadline <= made && tick <= made - deadline)
 }
 
 impl<Q: ReadyQueue> WaitingJobs<Q> {
     // Puts a job of each task whose table runs at its point, in the order of their numbers.
     pub(crate) fn activate_due(&mut self, plan: &Plan, tables: &Tables, tick: u32)
-        ensures jobs { Q.ReadyQueue.whole self.old.queue → ((k : ℕ) → activates (content plan.now) (record_of tables.now.records) k ≡ true → Q.ReadyQueue.jobs self.old.queue k ≡ None) → (k : ℕ) → Q.ReadyQueue.jobs self.new.queue k ≡ (if activates (content plan.now) (record_of tables.now.records) k then Some (new_job (content plan.now) tick k) else Q.ReadyQueue.jobs self.old.queue k) }
-        ensures whole { Q.ReadyQueue.whole self.old.queue → Q.ReadyQueue.whole self.new.queue }
-        ensures noted { Q.ReadyQueue.whole self.old.queue → Noted (Q.ReadyQueue.jobs self.old.queue) self.old.since → Noted (Q.ReadyQueue.jobs self.new.queue) self.new.since }
+        ensures { ((k : ℕ) → activates (content plan.now) (record_of tables.now.records) k ≡ true → Q.ReadyQueue.jobs self.old.queue k ≡ None) → (k : ℕ) → Q.ReadyQueue.jobs self.new.queue k ≡ (if activates (content plan.now) (record_of tables.now.records) k then Some (new_job (content plan.now) tick k) else Q.ReadyQueue.jobs self.old.queue k) }
     {
-        let tasks = plan.tasks();
-        for k in 0..tasks.len() {
-            let task = tasks[k];
+        for (k, task) in plan.tasks().iter().enumerate() {
             let point = point_at(plan.points(), task.point);
             if tables.record_of(point.table).state.is_at(point.position) {
                 self.activate(Job {
@@ -73,11 +61,10 @@ impl<Q: ReadyQueue> WaitingJobs<Q> {
 
     // The lowest task with a job whose deadline has come when so many ticks are made.
     pub(crate) fn first_late(&self, plan: &Plan, made: u32) -> Option<usize>
-        ensures { Q.ReadyQueue.whole self.now.queue → Noted (Q.ReadyQueue.jobs self.now.queue) self.now.since → result ≡ late_task (content plan.now) made (Q.ReadyQueue.jobs self.now.queue) }
+        ensures { result ≡ late_task (content plan.now) made (Q.ReadyQueue.jobs self.now.queue) }
     {
-        let tasks = plan.tasks();
-        for k in 0..tasks.len() {
-            if is_overdue(self.activation(k), tasks[k].deadline, made) {
+        for (k, task) in plan.tasks().iter().enumerate() {
+            if is_overdue(self.activation(k), task.deadline, made) {
                 return Some(k);
             }
         }

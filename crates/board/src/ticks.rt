@@ -1,7 +1,7 @@
 // One tick of a board.
 ghost use Rattle.std.specs.Prelude.{◌≡◌, false, is_ok};
 ghost use Rattle.plan.specs.Plans.{content};
-ghost use Rattle.board.specs.Boards.{model, Good};
+ghost use Rattle.board.specs.Boards.{model};
 ghost use Rattle.board.specs.Ticks.{DidTick};
 
 use crate::boards::Board;
@@ -13,14 +13,11 @@ const MAX_TICKS: u32 = 1_000_000_000;
 impl<Q: ReadyQueue> Board<Q> {
     // Makes one tick, and tells the task served, its response if the job finished, and the lowest late task.
     pub fn tick(&mut self) -> Result<TickAnswer, CallRefusal>
-        ensures answer { Good Q.ReadyQueue.jobs Q.ReadyQueue.whole self.old → DidTick (content self.old.plan) (model Q.ReadyQueue.jobs Q.ReadyQueue.whole self.old) result (model Q.ReadyQueue.jobs Q.ReadyQueue.whole self.new) }
+        ensures answer { DidTick (content self.old.plan) (model Q.ReadyQueue.jobs self.old) result (model Q.ReadyQueue.jobs self.new) }
         ensures refused { is_ok result ≡ false → self.new ≡ self.old }
         ensures plan { self.new.plan ≡ self.old.plan }
-        ensures good { Good Q.ReadyQueue.jobs Q.ReadyQueue.whole self.old → Good Q.ReadyQueue.jobs Q.ReadyQueue.whole self.new }
     {
-        if self.late.is_some() {
-            return Err(CallRefusal::LateBoard);
-        }
+        self.not_late()?;
         let tick = self.ticks;
         if tick >= MAX_TICKS {
             return Err(CallRefusal::ClockFull);

@@ -1,8 +1,8 @@
 // Drives boards on sample plans, and prints the last answer of each drive.
 #![tactic(auto)]
 
-use anyhow::anyhow;
-use board::{Answer, Call, drive};
+use anyhow::{Context, anyhow};
+use board::{Answer, Call, Outcome, drive};
 use plan::{Fault, Plan};
 use ready::arrival::ArrivalList;
 use ready::examiner::ExaminerQueue;
@@ -21,12 +21,13 @@ const HURRIED: &[u8] =
 const TIED: &[u8] =
     b"T\x00\x0aP\x00\x00JTWO.\x00\x02\x00\x0a\x01T\x00\x0aP\x00\x00JTHRE\x00\x03\x00\x0a\x01E";
 
+// A sample that cannot be read is this program's own fault, so it has another message than a plan that a user hands to `drive`.
 fn plan_of(heap: Global, file: &[u8]) -> anyhow::Result<Plan> {
     let mut plan = Plan::new(heap)?;
     match plan.read(heap, file) {
         Ok(()) => Ok(plan),
         Err(Fault::At { .. }) => Err(anyhow!("a sample plan cannot be read")),
-        Err(Fault::Memory) => Err(anyhow!("no memory for the plan")),
+        Err(fault) => Err(fault.into()),
     }
 }
 
@@ -45,26 +46,15 @@ fn started(heap: Global, delays: &[u32], ticks: u32) -> Result<Vec<Call>, AllocE
     Ok(calls)
 }
 
-fn print_last(rt: &HostRuntime, label: &str, answers: &[Answer]) -> anyhow::Result<()> {
-    let Some(last) = answers.last() else {
-        return Err(anyhow!("a drive without calls"));
-    };
-    match *last {
-        Answer::Done => println!(rt; "{label}: done")?,
-        Answer::Refused { why } => {
-            let number = why.number();
-            println!(rt; "{label}: refused {number}")?
-        }
-        Answer::State { state } => {
-            let number = state.number();
-            println!(rt; "{label}: state {number}")?
-        }
-        Answer::Ticked { told } => {
-            let served = told.served;
-            let response = told.response;
-            let late = told.late;
-            println!(rt; "{label}: served {served:?}, response {response:?}, late {late:?}")?
-        }
+fn print_last(rt: &HostRuntime, label: &str, outcomes: &[Outcome]) -> anyhow::Result<()> {
+    match outcomes.last().context("a drive without calls")? {
+        Ok(Answer::Done) => println!(rt; "{label}: done")?,
+        Ok(Answer::State { state }) => println!(rt; "{label}: state {}", state.number())?,
+        Ok(Answer::Ticked { told }) => println!(rt;
+            "{label}: served {:?}, response {:?}, late {:?}",
+            told.served, told.response, told.late
+        )?,
+        Err(why) => println!(rt; "{label}: refused {}", why.number())?,
     }
     Ok(())
 }
@@ -78,7 +68,7 @@ fn show<Q: ReadyQueue + Drop>(
 ) -> anyhow::Result<()> {
     let plan = plan_of(rt.alloc(), file)?;
     let answers = drive(rt.alloc(), &plan, queue, calls)?;
-    print_last(rt, label, answers.as_slice())
+    print_last(rt, label, &answers)
 }
 
 fn on_arrival_lists(rt: &HostRuntime) -> anyhow::Result<()> {
@@ -89,7 +79,7 @@ fn on_arrival_lists(rt: &HostRuntime) -> anyhow::Result<()> {
         "delays 1 and 4, ninth tick",
         HARVESTER,
         ArrivalList::new(heap)?,
-        ninth.as_slice(),
+        &ninth,
     )?;
     let eighth = started(heap, &[1, 4], 8)?;
     show(
@@ -97,7 +87,7 @@ fn on_arrival_lists(rt: &HostRuntime) -> anyhow::Result<()> {
         "deadline 3, eighth tick",
         HURRIED,
         ArrivalList::new(heap)?,
-        eighth.as_slice(),
+        &eighth,
     )?;
     let fifth = started(heap, &[2, 1], 5)?;
     show(
@@ -105,7 +95,7 @@ fn on_arrival_lists(rt: &HostRuntime) -> anyhow::Result<()> {
         "tied, delays 2 and 1, fifth tick",
         TIED,
         ArrivalList::new(heap)?,
-        fifth.as_slice(),
+        &fifth,
     )?;
     let second = started(heap, &[1, 1], 2)?;
     show(
@@ -113,7 +103,7 @@ fn on_arrival_lists(rt: &HostRuntime) -> anyhow::Result<()> {
         "tied, delays 1 and 1, second tick",
         TIED,
         ArrivalList::new(heap)?,
-        second.as_slice(),
+        &second,
     )
 }
 
@@ -125,14 +115,14 @@ fn on_examiners(rt: &HostRuntime) -> anyhow::Result<()> {
         "tied, first task watched, fifth tick",
         TIED,
         ExaminerQueue::new(0),
-        fifth.as_slice(),
+        &fifth,
     )?;
     show(
         rt,
         "tied, second task watched, fifth tick",
         TIED,
         ExaminerQueue::new(1),
-        fifth.as_slice(),
+        &fifth,
     )
 }
 
@@ -158,7 +148,7 @@ fn late_board(rt: &HostRuntime) -> anyhow::Result<()> {
         "late board, tick",
         HURRIED,
         ArrivalList::new(heap)?,
-        calls.as_slice(),
+        &calls,
     )?;
     calls.push(Call::Stop { table: 0 })?;
     show(
@@ -166,7 +156,7 @@ fn late_board(rt: &HostRuntime) -> anyhow::Result<()> {
         "late board, stop",
         HURRIED,
         ArrivalList::new(heap)?,
-        calls.as_slice(),
+        &calls,
     )?;
     calls.push(Call::State { table: 1 })?;
     show(
@@ -174,7 +164,7 @@ fn late_board(rt: &HostRuntime) -> anyhow::Result<()> {
         "late board, state",
         HURRIED,
         ArrivalList::new(heap)?,
-        calls.as_slice(),
+        &calls,
     )
 }
 

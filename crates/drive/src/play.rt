@@ -1,106 +1,88 @@
 // Plays a drive on a new board, line by line.
-use crate::orders::{Order, read_order};
-use anyhow::anyhow;
-use board::{Answer, Board, Call};
+use anyhow::bail;
+use board::{Answer, Board, Call, Outcome};
+use orders::{Order, read_order};
 use plan::Plan;
 use ready::queue::ReadyQueue;
+use std::alloc::{AllocError, Global};
+use std::fmt;
 
 // A part of a line, `-` where there is nothing to tell.
-fn print_part(rt: &HostRuntime, part: Option<u64>) -> anyhow::Result<()> {
-    match part {
-        Some(n) => print!(rt; " {n}")?,
-        None => print!(rt; " -")?,
+#[derive(Clone, Copy)]
+struct Part<T>(Option<T>);
+
+impl<T: fmt::Display> fmt::Display for Part<T> {
+    fn fmt<W: fmt::Write>(&self, f: &mut fmt::Formatter<W>) -> fmt::Result {
+        match &self.0 {
+            Some(told) => write!(f, "{told}"),
+            None => write!(f, "-"),
+        }
+    }
+}
+
+fn print_outcome(rt: &HostRuntime, outcome: Outcome, made: u32) -> anyhow::Result<()> {
+    match outcome {
+        Ok(Answer::Done) => println!(rt; "OK")?,
+        Ok(Answer::State { state }) => println!(rt; "STATE {}", state.number())?,
+        Ok(Answer::Ticked { told }) => println!(rt;
+            "TICK {made} {} {} {}",
+            Part(told.served),
+            Part(told.response),
+            Part(told.late)
+        )?,
+        Err(why) => println!(rt; "REFUSED {}", why.number())?,
     }
     Ok(())
 }
 
-fn widened(part: Option<usize>) -> Option<u64> {
-    match part {
-        Some(n) => Some(n as u64),
-        None => None,
-    }
+// A table's number; one that is too large is the largest, at which no board has a table.
+fn table_at(table: u64) -> usize {
+    usize::try_from(table).unwrap_or(usize::MAX)
 }
 
-fn print_answer(rt: &HostRuntime, answer: Answer, made: u32) -> anyhow::Result<()> {
-    match answer {
-        Answer::Done => println!(rt; "OK")?,
-        Answer::Refused { why } => {
-            let number = why.number();
-            println!(rt; "REFUSED {number}")?
-        }
-        Answer::State { state } => {
-            let number = state.number();
-            println!(rt; "STATE {number}")?
-        }
-        Answer::Ticked { told } => {
-            print!(rt; "TICK {made}")?;
-            print_part(rt, widened(told.served))?;
-            let response = match told.response {
-                Some(n) => Some(u64::from(n)),
-                None => None,
-            };
-            print_part(rt, response)?;
-            print_part(rt, widened(told.late))?;
-            println!(rt; "")?
-        }
-    }
-    Ok(())
-}
-
-// Makes the call so often, and prints each answer.
-fn make_calls<Q: ReadyQueue>(
-    rt: &HostRuntime,
-    board: &mut Board<Q>,
-    call: Call,
-    count: u64,
-) -> anyhow::Result<()> {
-    for _ in 0..count {
-        let answer = board.call(call);
-        print_answer(rt, answer, board.ticks_made())?;
-    }
-    Ok(())
-}
-
-// A number that is too large for a delay is refused as a delay that is too large.
-fn as_delay(delay: u64) -> u32 {
-    u32::try_from(delay).unwrap_or(u32::MAX)
-}
-
-fn obey<Q: ReadyQueue>(rt: &HostRuntime, board: &mut Board<Q>, asked: Order) -> anyhow::Result<()> {
+// The call that an order asks for, and how often. A delay that is too large is refused as one.
+fn calls_of(asked: Order) -> (Call, u64) {
     match asked {
         Order::Start { table, delay } => {
-            let table = table as usize;
-            let delay = as_delay(delay);
-            make_calls(rt, board, Call::Start { table, delay }, 1)
+            let table = table_at(table);
+            let delay = u32::try_from(delay).unwrap_or(u32::MAX);
+            (Call::Start { table, delay }, 1)
         }
-        Order::Stop { table } => make_calls(
-            rt,
-            board,
-            Call::Stop {
-                table: table as usize,
-            },
-            1,
-        ),
-        Order::State { table } => make_calls(
-            rt,
-            board,
-            Call::State {
-                table: table as usize,
-            },
-            1,
-        ),
-        Order::Ticks { count } => make_calls(rt, board, Call::Tick, count),
+        Order::Stop { table } => {
+            let table = table_at(table);
+            (Call::Stop { table }, 1)
+        }
+        Order::State { table } => {
+            let table = table_at(table);
+            (Call::State { table }, 1)
+        }
+        Order::Ticks { count } => (Call::Tick, count),
     }
+}
+
+// Makes the calls that are asked for, and prints each answer.
+fn obey<Q: ReadyQueue>(rt: &HostRuntime, board: &mut Board<Q>, asked: Order) -> anyhow::Result<()> {
+    let (call, count) = calls_of(asked);
+    for _ in 0..count {
+        let outcome = board.call(call);
+        print_outcome(rt, outcome, board.ticks_made())?;
+    }
+    Ok(())
+}
+
+// The words of a line, one space apart: here any white space parts them, and for an order that of ASCII alone.
+fn spaced(alloc: Global, line: &str) -> Result<String, AllocError> {
+    let words: Vec<&str> = line.split_whitespace().collect(alloc)?;
+    words.join(alloc, " ")
 }
 
 pub fn play<Q: ReadyQueue + Drop>(rt: &HostRuntime, plan: &Plan, queue: Q) -> anyhow::Result<()> {
     let Ok(mut board) = Board::rehearse(rt.alloc(), plan, queue) else {
-        return Err(anyhow!("no memory for the board"));
+        bail!("no memory for the board");
     };
-    let mut place: u64 = 0;
-    for line in rt.lines(rt.alloc()) {
-        place = place.saturating_add(1);
-        match read_order(line?.as_str()) {
+    for (place, line) in (1u64..).zip(rt.lines(rt.alloc())) {
+        let words = spaced(rt.alloc(), &line?)?;
+        match read_order(words.as_bytes()) {
             Some(asked) => obey(rt, &mut board, asked)?,
             None => eprintln!(rt; "line {place}: not understood")?,
         }

@@ -1,7 +1,6 @@
 pub mod Terms
 pub mod Gathering
 pub mod Demands
-pub mod Pushed
 pub mod Spreading
 pub mod Peaks
 pub mod Trying

@@ -1,24 +1,24 @@
 -- What the search knows of the plan: its windows are open, what it takes is a choice of the theory, and what it passes over is no better. Assumes nothing.
-use Rattle.std.proofs.Common.{◌≡◌, ℕ, ◌+◌, ◌-◌, ◌%◌, ◌<◌, ◌≤◌, true, eqb, leb, ◌≢◌, List, length, get_or, set, sym, refl, ap, ◌∙◌, subst, ⊎_elim, arith}
+use Rattle.std.proofs.Common.{◌≡◌, ℕ, ◌+◌, ◌-◌, ◌%◌, ◌<◌, ◌≤◌, true, eqb, leb, ◌≢◌, List, length, get_or, set, sym, refl, ap, ◌∙◌, subst, vec_items, ⊎_elim, arith}
 use Rattle.std.proofs.lemmas.List.{length-set, get_or-set_same, get_or-set_other}
 use Rattle.std.proofs.lemmas.Bool.{cases_eq, cases_lt, eqb-true, leb-true}
 use Rattle.theory.specs.Windows.{Choice}
 use Rattle.theory.proofs.Reaches.{demand_within, reach_within_lem}
 use Rattle.plan.specs.Content.{Content, table_count, task_count, duration_of, table_of, position_of, table_of_point, position_of_point, task_at}
 use Rattle.plan.specs.Rules.{lawful, hyperperiod_of}
-use Rattle.plan.specs.Limits.{max_duration, max_hyperperiod}
 use Rattle.plan.proofs.Kept.{lawful_from}
 use Rattle.plan.proofs.Setting.{count_has}
 use Rattle.plan.proofs.Work.{hyperperiod_law}
-use Rattle.plan.specs.declared.records.Point.{Point}
-use Rattle.figures.specs.declared.loads.Group.{Group}
 use Rattle.figures.specs.declared.worst.Worst.{Worst}
+use Rattle.figures.specs.declared.search.Search.{Search}
+use Rattle.plan.specs.Plans.{content}
 use Rattle.figures.specs.declared.windows.Own.{Own}
 use Rattle.figures.specs.declared.windows.Window.{Window}
 use Rattle.analysis.specs.Bridge.{plan_of}
-use Rattle.figures.specs.Loads.{no_group, AllFine}
+use Rattle.figures.specs.Loads.{Rivals}
 use Rattle.figures.specs.Reaches.{ReachOf}
-use Rattle.figures.specs.Choices.{Has, Stands, Listed}
+use Rattle.figures.specs.Grouped.{Grouped}
+use Rattle.figures.specs.Choices.{Has, Stands, Listed, ListedFor}
 use Rattle.figures.specs.Ceilings.{ceiling_of, Within}
 use Rattle.figures.specs.Worsts.{phase_of, Attains, WorstOf}
 use Rattle.figures.specs.Tries.{Open, phase_in, Taken, Bettered}
@@ -59,38 +59,19 @@ module _ (c : Content) (kept : lawful c ≡ true) where
       let found = listed.complete (λ i. (some_position i).0) (λ i lt ne. (some_position i).1 lt) in
       omega (arith, found.1.1)
 
-module _ {c : Content} {t : ℕ} {gs : List Group} {choices : List (List ℕ)} {o : Own} (s : Prepared c t gs choices o) where
-  pub all_fine : AllFine gs
-  all_fine = record {
-    few = omega (arith, s.grouped.all, (lawful_from c s.kept).few);
-    each = λ i lt. (s.grouped.each i (omega (arith, lt, s.grouped.all))).fine;
-  }
-
+module _ (c : Content) (t : ℕ) (gs : List Rivals) (kept : lawful c ≡ true) (grouped : Grouped c t gs) where
+  -- every point lies within its group
   pub all_within : Within c.points gs
   all_within j lt inside =
-      let p = (lawful_from c s.kept).points j lt in
-      omega (arith, p.position_in, (s.grouped.each (table_of_point c j) p.table_in).lasting)
+      let p = (lawful_from c kept).points j lt in
+      omega (arith, p.position_in, (grouped.each (table_of_point c j) p.table_in).lasting)
 
+module _ {c : Content} {t : ℕ} {gs : List Rivals} {choices : List (List ℕ)} {o : Own} (s : Prepared c t gs choices o) where
   own_in : table_of c t < table_count c
   own_in = (plans_are_lawful_lem c s.kept).table_in t s.task
 
-  -- the task lies within its own table
-  pub own_within : (o.position < o.duration) × (o.duration ≤ max_duration)
-  own_within =
-      let d = (lawful_from c s.kept).tables (table_of c t) own_in in
-      (omega (arith, s.own.position, s.own.duration, (plans_are_lawful_lem c s.kept).position_in t s.task), omega (arith, s.own.duration, d.short))
-
   pub some_ticks : 0 < hyperperiod_of c
   some_ticks = (hyperperiod_law c s.kept).some
-
-  pub limit_short : o.limit ≤ max_hyperperiod
-  limit_short = omega (arith, s.own.limit, (hyperperiod_law c s.kept).bound)
-
-  -- the own phase lies within the own table
-  pub own_lasts : (w : Window) (x : ℕ) → WindowOf o x w → w.phase < (get_or gs w.own no_group).duration
-  own_lasts w x is =
-      let e : w.own ≡ table_of c t = is.owns ∙ s.own.table in
-      omega (arith, is.below, s.own.duration, (s.grouped.each (table_of c t) own_in).lasting, ap (λ i. (get_or gs i no_group).duration) e)
 
   -- the phases of a choice, with the own phase put in
   here : (w : Window) (x : ℕ) (v : List ℕ) → WindowOf o x w → Has choices v → phase_in w v (table_of c t) ≡ w.phase
@@ -115,16 +96,12 @@ module _ {c : Content} {t : ℕ} {gs : List Group} {choices : List (List ℕ)} {
       let tick = is.ticks in
       let limit : w.limit ≡ hyperperiod_of c = is.limits ∙ s.own.limit in
       record {
-        fine = all_fine;
-        inside = omega (arith, is.owns, s.own.table, own_in, (lawful_from c s.kept).few);
         phased = λ v h. record {
           enough = omega (arith, length-set v w.own w.phase, (s.listed.sound v h).full, s.grouped.all, (lawful_from c s.kept).few);
           below = λ i lt.
               let inside : i < table_count c = omega (arith, lt, s.grouped.all) in
               omega (arith, phase_in_lem w x v i is h inside, (s.grouped.each i inside).lasting);
         };
-        early = omega (arith, tick, limit, early);
-        short = omega (arith, limit, (hyperperiod_law c s.kept).bound);
         light = λ φ.
             let met = demand_within (plan_of c) (plans_are_lawful_lem c s.kept) t w.tick φ (w.limit - w.tick) (omega (arith, tick, early)) (omega (arith, tick, limit, early)) in
             omega (arith, met, demand_is c t (plans_are_lawful_lem c s.kept) gs s.grouped φ w.tick (w.limit - w.tick), s.light, limit);
@@ -179,13 +156,13 @@ module _ {c : Content} {t : ℕ} {gs : List Group} {choices : List (List ℕ)} {
       better.bounds v y h (subst (λ n. ReachOf gs n (phase_in w v) y) (sym is.ticks) r)
 
   -- where the ceiling is met, no choice is better
-  pub ceiling_tops : (w : Window) (x f : ℕ) (points : List Point) → points ≡ c.points → WindowOf o x w → 1 ≤ f
-      → true ≡ leb (ceiling_of points gs w.own w.phase (w.tick + f) (w.tick + 1)) (w.tick + f) → Topped c t x f
-  ceiling_tops w x f points same is one met φ y chosen reached =
+  pub ceiling_tops : (w : Window) (x f : ℕ) → WindowOf o x w → 1 ≤ f
+      → true ≡ leb (ceiling_of c.points gs w.own w.phase (w.tick + f) (w.tick + 1)) (w.tick + f) → Topped c t x f
+  ceiling_tops w x f is one met φ y chosen reached =
       let e : w.own ≡ table_of c t = is.owns ∙ s.own.table in
-      let stands : (i : ℕ) → i < length gs → i ≢ w.own → Stands points i (φ i) =
-      λ i lt ne. subst (λ ps. Stands ps i (φ i)) (sym same) (chosen_stands w x is φ chosen i (omega (arith, lt, s.grouped.all)) (λ q. ne (q ∙ sym e))) in
-      let above = ceiling_above points gs w.own w.phase φ w.tick f (ap φ e ∙ chosen_own w x is φ chosen) stands in
+      let stands : (i : ℕ) → i < length gs → i ≢ w.own → Stands c.points i (φ i) =
+      λ i lt ne. chosen_stands w x is φ chosen i (omega (arith, lt, s.grouped.all)) (λ q. ne (q ∙ sym e)) in
+      let above = ceiling_above c.points gs w.own w.phase φ w.tick f (ap φ e ∙ chosen_own w x is φ chosen) stands in
       let r = reach_from c t (plans_are_lawful_lem c s.kept) gs s.grouped x φ y reached in
       enough_bounds gs w.tick φ y f (subst (λ n. ReachOf gs n φ y) (sym is.ticks) r) one (omega (arith, above, leb-true _ _ (sym met)))
 
@@ -206,10 +183,18 @@ module _ {c : Content} {t : ℕ} {gs : List Group} {choices : List (List ℕ)} {
     rest = a.rest;
   }
 
-  -- a reach ends within the hyperperiod
-  pub attains_ends : (w : Worst) → Attains c t w → w.tick + w.figure ≤ hyperperiod_of c
-  attains_ends w a = reach_within_lem (plan_of c) t w.tick (phase_of w) w.figure (plans_are_lawful_lem c s.kept) s.light a.choice.early a.reach
-
   pub bettered_attains : (w : Window) (x : ℕ) (a b : Worst) → WindowOf o x w → x < hyperperiod_of c → Bettered gs choices w a b → Attains c t a → Attains c t b
   bettered_attains w x a b is early better had =
       ⊎_elim (λ same. subst (Attains c t) (sym same) had) (λ taken. taken_attains w x b is early taken) better.origin
+
+-- all that the search begins with, of what a search holds and the choices of its plan
+pub prepared : (s : Search) → ListedFor (content s.subject.plan.now) s.subject.task (vec_items s.choices)
+    → Prepared (content s.subject.plan.now) s.subject.task (vec_items s.groups) (vec_items s.choices) s.own
+prepared s listed = record {
+  kept = s.subject.plan.now.kept;
+  task = s.subject.inside;
+  light = omega (arith, s.subject.light, s.subject.multiple);
+  grouped = s.grouped;
+  listed = listed;
+  own = s.owned;
+}

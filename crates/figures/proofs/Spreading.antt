@@ -1,5 +1,5 @@
 -- Choices are spread over the points of one table, one choice and one point after another. Assumes nothing.
-use Rattle.std.proofs.Common.{◌≡◌, ℕ, zero, suc, ◌+◌, ◌<◌, ◌≤◌, ◌≢◌, ◌⊎◌, List, [], ◌∷◌, ◌++◌, length, get_or, set, sym, refl, ap, ◌∙◌, subst, inl, inr, ⊎_elim, arith}
+use Rattle.std.proofs.Common.{◌≡◌, ℕ, zero, suc, ◌+◌, ◌<◌, ◌≤◌, ◌≢◌, ◌⊎◌, List, [], ◌∷◌, ◌++◌, length, get_or, set, sym, refl, ap, ◌∙◌, subst, inl, inr, ⊎_elim, below_more, arith}
 use Rattle.std.proofs.lemmas.List.{length_push, get_or_push, get_or_append_left, length-set, get_or-set_same, get_or-set_other}
 use Rattle.std.proofs.lemmas.Bool.{cases_eq}
 use Rattle.plan.specs.declared.records.Point.{Point}
@@ -27,23 +27,12 @@ pub record Spreading (points : List Point) (i : ℕ) (earlier later : List (List
   pub here : (k : ℕ) → k < j → (get_or points k no_point).table ≡ i → Has later (set (get_or earlier m []) i (get_or points k no_point).position)
 
 module _ (points : List Point) (i : ℕ) (earlier : List (List ℕ)) where
-  pub spreading_none : Spreading points i earlier [] 0 0
-  spreading_none = record {
-    sound = λ v h. absurd (omega (arith, h.1));
-    done = λ n q lt s. absurd (omega arith);
-    here = λ k lt e. absurd (omega arith);
-  }
-
   pub spreading_row : (later : List (List ℕ)) (m j : ℕ) → length points ≤ j → Spreading points i earlier later m j → Spreading points i earlier later (m + 1) 0
   spreading_row later m j all s = record {
     sound = s.sound;
     done = λ n q lt p.
-        ⊎_elim
-        (λ e.
-        let h = s.here p.0 (omega (arith, p.1, all)) p.2 in
-        subst (λ k. Has later (set (get_or earlier k []) i q)) (sym e) (subst (λ r. Has later (set (get_or earlier m []) i r)) p.3 h))
-        (λ ne. s.done n q (omega (arith, lt, ne)) p)
-        (cases_eq n m);
+        below_more (λ k. Has later (set (get_or earlier k []) i q)) m (λ k less. s.done k q less p)
+        (subst (λ r. Has later (set (get_or earlier m []) i r)) p.3 (s.here p.0 (omega (arith, p.1, all)) p.2)) n lt;
     here = λ k lt e. absurd (omega arith);
   }
 
@@ -51,11 +40,8 @@ module _ (points : List Point) (i : ℕ) (earlier : List (List ℕ)) where
   spreading_skip later m j other s = record {
     sound = s.sound;
     done = s.done;
-    here = λ k lt e.
-        ⊎_elim
-        (λ same. absurd (other (subst (λ n. (get_or points n no_point).table ≡ i) same e)))
-        (λ ne. s.here k (omega (arith, lt, ne)) e)
-        (cases_eq k j);
+    here = below_more (λ k. (get_or points k no_point).table ≡ i → Has later (set (get_or earlier m []) i (get_or points k no_point).position)) j s.here
+        (λ e. absurd (other e));
   }
 
   pub spreading_push : (later more : List (List ℕ)) (m j q : ℕ) → m < length earlier → j < length points → (get_or points j no_point).table ≡ i → q ≡ (get_or points j no_point).position
@@ -69,11 +55,9 @@ module _ (points : List Point) (i : ℕ) (earlier : List (List ℕ)) where
             (λ same. (get_or earlier m [], q, (m, ml, refl), (j, jl, at, sym is), same))
             (has_either later x v h);
         done = λ n r lt p. has_old later x (set (get_or earlier n []) i r) (s.done n r lt p);
-        here = λ k lt f.
-            ⊎_elim
-            (λ same. subst (λ r. Has (later ++ x ∷ []) (set (get_or earlier m []) i r)) (is ∙ sym (ap (λ n. (get_or points n no_point).position) same)) (has_new later x))
-            (λ ne. has_old later x _ (s.here k (omega (arith, lt, ne)) f))
-            (cases_eq k j);
+        here = below_more (λ k. (get_or points k no_point).table ≡ i → Has (later ++ x ∷ []) (set (get_or earlier m []) i (get_or points k no_point).position)) j
+            (λ k lt f. has_old later x _ (s.here k lt f))
+            (λ f. subst (λ r. Has (later ++ x ∷ []) (set (get_or earlier m []) i r)) is (has_new later x));
       } in
       subst (λ l. Spreading points i earlier l m (j + 1)) (sym e) new
 
@@ -111,12 +95,12 @@ module _ (points : List Point) (own : ℕ) where
         let s = l.sound v h in
         record {
           full = s.full;
-          stands = λ i lt ne. s.stands i (omega (arith, lt, mine, ne)) ne;
+          stands = below_more (λ i. i ≢ own → Stands points i (get_or v i 0)) n s.stands (λ ne. absurd (ne mine));
           rest = λ i le. s.rest i (omega (arith, le));
         };
     complete = λ φ all.
         let r = l.complete φ (λ i lt ne. all i (omega (arith, lt)) ne) in
-        (r.0, r.1, λ i lt ne. r.2 i (omega (arith, lt, mine, ne)) ne);
+        (r.0, r.1, below_more (λ i. i ≢ own → get_or r.0 i 0 ≡ φ i) n r.2 (λ ne. absurd (ne mine)));
   }
 
   pub listed_spread : (choices more : List (List ℕ)) (n : ℕ) → n < max_tables → n ≢ own → Spread points n choices more → Listed points own n choices → Listed points own (n + 1) more
@@ -129,11 +113,9 @@ module _ (points : List Point) (own : ℕ) where
         let inside : n < length w = omega (arith, s.full, few) in
         subst (Sound points own (n + 1)) (sym r.4) (record {
           full = length-set w n q ∙ s.full;
-          stands = λ i lt ne.
-              ⊎_elim
-              (λ e. subst (λ m. Stands points m (get_or (set w n q) m 0)) (sym e) (subst (Stands points n) (sym (get_or-set_same w n q 0 inside)) r.3))
-              (λ off. subst (Stands points i) (sym (get_or-set_other w n i q 0 off)) (s.stands i (omega (arith, lt, off)) ne))
-              (cases_eq i n);
+          stands = below_more (λ i. i ≢ own → Stands points i (get_or (set w n q) i 0)) n
+              (λ i lt ne. subst (Stands points i) (sym (get_or-set_other w n i q 0 (λ e. absurd (omega (arith, e, lt))))) (s.stands i lt ne))
+              (λ ne. subst (Stands points n) (sym (get_or-set_same w n q 0 inside)) r.3);
           rest = λ i le. get_or-set_other w n i q 0 (λ e. absurd (omega (arith, e, le))) ∙ s.rest i (omega (arith, le));
         });
     complete = λ φ all.
@@ -143,10 +125,8 @@ module _ (points : List Point) (own : ℕ) where
         let inside : n < length w = omega (arith, s.full, few) in (
           set w n (φ n),
           spread.complete w (φ n) r.1 (all n (omega arith) other),
-          λ i lt ne.
-              ⊎_elim
-              (λ e. subst (λ m. get_or (set w n (φ n)) m 0 ≡ φ m) (sym e) (get_or-set_same w n (φ n) 0 inside))
-              (λ off. get_or-set_other w n i (φ n) 0 off ∙ r.2 i (omega (arith, lt, off)) ne)
-              (cases_eq i n),
+          below_more (λ i. i ≢ own → get_or (set w n (φ n)) i 0 ≡ φ i) n
+              (λ i lt ne. get_or-set_other w n i (φ n) 0 (λ e. absurd (omega (arith, e, lt))) ∙ r.2 i lt ne)
+              (λ ne. get_or-set_same w n (φ n) 0 inside),
         );
   }

@@ -1,7 +1,7 @@
 -- Lists of phases, one for each choice of a point in each table other than the task's own. Assumes nothing.
 use Rattle.std.specs.Prelude.{◌≡◌, ℕ, ◌<◌, ◌≤◌, List, [], length, get_or, ◌≢◌, slice_index, slice_index_or, slice_set}
 use Rattle.plan.specs.declared.records.Point.{Point}
-use Rattle.plan.specs.Content.{no_point}
+use Rattle.plan.specs.Content.{Content, no_point, table_count, table_of}
 use Rattle.plan.specs.Limits.{max_tables}
 
 -- v is one of the choices
@@ -28,3 +28,7 @@ pub record Listed (points : List Point) (own n : ℕ) (choices : List (List ℕ)
   pub sound : (v : List ℕ) → Has choices v → Sound points own n v
   pub complete : (φ : ℕ → ℕ) → ((i : ℕ) → i < n → (i ≢ own) → Stands points i (φ i))
       → (v : List ℕ) × Has choices v × ((i : ℕ) → i < n → (i ≢ own) → slice_index v i ≡ φ i)
+
+-- the choices for task t of the plan
+abbrev pub ListedFor : Content → ℕ → List (List ℕ) → Type 0
+ListedFor c t choices = Listed c.points (table_of c t) (table_count c) choices

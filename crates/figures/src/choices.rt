@@ -1,9 +1,11 @@
 // The choices of a point in each table other than a task's own, as lists of phases.
-ghost use Rattle.std.specs.Prelude.{◌<◌, ◌≤◌, IfOk};
+ghost use Rattle.std.specs.Prelude.{◌<◌, IfOk};
+ghost use Rattle.plan.specs.Content.{table_count};
 ghost use Rattle.plan.specs.Limits.{max_tables};
+ghost use Rattle.plan.specs.Plans.{content};
 ghost use Rattle.figures.specs.Choices.{Spread, Listed};
 
-use plan::{MAX_TABLES, Point};
+use plan::{MAX_TABLES, Plan, Point};
 use std::alloc::{AllocError, Global};
 
 // Each choice with each position of a point of the table put in.
@@ -19,33 +21,30 @@ fn with_table(
     let mut longer = Vec::new(heap);
     for choice in choices {
         for point in points {
-            if point.table != table {
-                continue;
+            if point.table == table {
+                let mut phases = *choice;
+                phases[table] = u32::from(point.position);
+                longer.push(phases)?;
             }
-            let mut phases = *choice;
-            phases[table] = u32::from(point.position);
-            longer.push(phases)?;
         }
     }
     Ok(longer)
 }
 
-// All choices, one table after another.
+// All choices, one table after another. Arrays, not lists: each choice is a plain value that the search copies without the heap.
 pub(crate) fn choices_of(
     heap: Global,
-    points: &[Point],
-    tables: usize,
+    plan: &Plan,
     own: usize,
 ) -> Result<Vec<[u32; MAX_TABLES]>, AllocError>
-    requires { tables ≤ max_tables }
-    ensures { IfOk result (λ v. Listed points.now own tables v.items) }
+    ensures { IfOk result (λ v. Listed (content plan.now).points own (table_count (content plan.now)) v.items) }
 {
     let mut choices = Vec::from_slice(heap, &[[0; MAX_TABLES]])?;
-    for table in 0..tables {
-        if table == own {
-            continue;
+    // A table goes by its number here, as in the promise: no element is read.
+    for table in 0..plan.tables().len() {
+        if table != own {
+            choices = with_table(heap, &choices, plan.points(), table)?;
         }
-        choices = with_table(heap, choices.as_slice(), points, table)?;
     }
     Ok(choices)
 }

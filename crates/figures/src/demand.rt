@@ -1,76 +1,55 @@
 // The demand of a window, and its reach.
-ghost use Rattle.std.specs.Prelude.{◌≡◌, ◌+◌, ◌-◌, ◌<◌, ◌≤◌, slice_index};
-ghost use Rattle.plan.specs.Limits.{max_duration, max_hyperperiod};
-ghost use Rattle.figures.specs.Loads.{term_of, part_of, demand_of, Small, Fine, AllFine, Phased, most_of_task, most_of_table};
+ghost use Rattle.std.specs.Prelude.{◌≡◌, ◌+◌, ◌-◌, ◌<◌, ◌≤◌, nat_le, slice_index};
+ghost use Rattle.plan.specs.Limits.{max_hyperperiod};
+ghost use Rattle.figures.specs.Loads.{demand_of, Phased};
 ghost use Rattle.figures.specs.Reaches.{ReachOf};
 
-use crate::loads::{Group, Load};
+use crate::groups::Group;
+use crate::spans::Span;
+use crate::windows::Window;
 use plan::MAX_TABLES;
 
-// What one task adds in a window of z ticks, in which a level job counts if it is activated in the first u ticks.
-fn term(load: Load, duration: u32, phase: u32, z: u32, u: u32) -> u32
-    requires short { duration ≤ max_duration }
-    requires small { Small duration load }
-    requires below { phase < duration }
-    requires ends { z ≤ max_hyperperiod }
-    requires first { u ≤ max_hyperperiod }
-    ensures value { result ≡ term_of duration load phase z u }
-    ensures most { result ≤ most_of_task }
-{
-    let mut start = phase + load.lead;
-    if start >= duration {
-        start -= duration;
-    }
-    let ticks = if load.above { z } else { u };
-    load.cost * ((start + ticks) / duration)
+// The groups of all tables, with the phase in which each table begins the window. Two lists, since the groups stay while the phases change.
+#[derive(Clone, Copy)]
+pub struct Phasing<'a> {
+    pub groups: &'a [Group],
+    pub phases: [u32; MAX_TABLES],
+    ghost phased: { Phased groups.now phases },
 }
 
-// What the tasks of one table add.
-pub(crate) fn part(group: &Group, phase: u32, z: u32, u: u32) -> u32
-    requires fine { Fine group.now }
-    requires below { phase < group.now.duration }
-    requires ends { z ≤ max_hyperperiod }
-    requires first { u ≤ max_hyperperiod }
-    ensures value { result ≡ part_of group.now phase z u }
-    ensures most { result ≤ most_of_table }
-{
-    let mut sum = 0;
-    for j in 0..group.count {
-        sum += term(group.loads[j], group.duration, phase, z, u);
-    }
-    sum
-}
-
-// What all tables add in the window whose job is activated in tick x, if it takes y ticks.
-pub(crate) fn demand(groups: &[Group], phases: &[u32; MAX_TABLES], x: u32, y: u32) -> u32
-    requires fine { AllFine groups.now }
-    requires phased { Phased groups.now phases.now }
-    requires some { 1 ≤ y }
-    requires ends { x + y ≤ max_hyperperiod }
-    ensures { result ≡ demand_of groups.now (λ i. slice_index phases.now i) x y }
-{
-    let mut sum = 0;
-    for i in 0..groups.len() {
-        sum += part(&groups[i], phases[i], x + y, x + 1);
-    }
-    sum
-}
-
-// The reach of the window: no number below a demand that is not met in time can do, since the demand never falls.
-pub(crate) fn reach(groups: &[Group], phases: &[u32; MAX_TABLES], x: u32, limit: u32) -> u32
-    requires fine { AllFine groups.now }
-    requires phased { Phased groups.now phases.now }
-    requires early { x < limit }
-    requires short { limit ≤ max_hyperperiod }
-    requires light { demand_of groups.now (λ i. slice_index phases.now i) x (limit - x) ≤ limit }
-    ensures { ReachOf groups.now x (λ i. slice_index phases.now i) result }
-{
-    let mut y = 1;
-    loop {
-        let needed = demand(groups, phases, x, y);
-        if needed <= x + y {
-            break y;
+impl Phasing<'_> {
+    // What all tables add.
+    fn demand(&self, span: Span) -> u32
+        ensures { result ≡ demand_of self.now.groups.now (λ i. slice_index self.now.phases i) span.tick span.ticks }
+    {
+        // A loop, not a sum: that each part fits and may be asked for was not found of the closure.
+        let mut sum = 0;
+        for (group, phase) in self.groups.iter().zip(&self.phases) {
+            sum += group.part(*phase, span);
         }
-        y = needed - x;
+        sum
+    }
+
+    // Whether so many ticks are enough for their demand: then they bound the reach.
+    pub(crate) fn is_enough(&self, span: Span) -> bool
+        ensures { result ≡ nat_le (demand_of self.now.groups.now (λ i. slice_index self.now.phases i) span.tick span.ticks) (span.tick + span.ticks) }
+    {
+        self.demand(span) <= span.end()
+    }
+
+    // The reach of the window: no number below a demand that is not met in time can do, since the demand never falls.
+    pub(crate) fn reach(&self, window: Window) -> u32
+        requires { demand_of self.now.groups.now (λ i. slice_index self.now.phases i) window.tick (window.limit - window.tick) ≤ window.limit }
+        ensures { ReachOf self.now.groups.now window.tick (λ i. slice_index self.now.phases i) result }
+    {
+        let tick = window.tick;
+        let mut ticks = 1;
+        loop {
+            let needed = self.demand(Span { tick, ticks });
+            if needed <= tick + ticks {
+                break ticks;
+            }
+            ticks = needed - tick;
+        }
     }
 }

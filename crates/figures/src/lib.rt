@@ -4,9 +4,11 @@
 mod ceiling;
 mod choices;
 mod demand;
-mod grouping;
+mod groups;
 mod loads;
 mod search;
+mod spans;
+mod subject;
 mod tries;
 mod windows;
 mod worst;

@@ -1,91 +1,82 @@
 // All choices of one window are tried.
-ghost use Rattle.std.specs.Prelude.{◌≡◌, ◌+◌, ◌<◌, ◌≤◌, length, nat_le, slice_index};
-ghost use Rattle.plan.specs.Limits.{max_hyperperiod};
-ghost use Rattle.figures.specs.Loads.{demand_of, AllFine, Phased};
+ghost use Rattle.std.specs.Prelude.{◌≡◌, ◌+◌, ◌<◌, ◌≤◌, length, slice_set};
+ghost use Rattle.figures.specs.Loads.{Phased};
 ghost use Rattle.figures.specs.Tries.{Open, Taken, Bettered, guess_of};
 
-use crate::demand::{demand, reach};
-use crate::loads::Group;
+use crate::demand::Phasing;
+use crate::search::Search;
+use crate::spans::Span;
 use crate::windows::{Best, Window};
 use crate::worst::Worst;
 use plan::MAX_TABLES;
 
-// A number that may bound the next reach as well: the next one often ends where the last one ended.
-fn guess(end: u32, x: u32, most: u32) -> u32
-    requires { 1 ≤ most }
-    ensures value { result ≡ guess_of end x most }
-    ensures some { 1 ≤ result }
-    ensures within { result ≤ most }
-{
-    if end <= x {
-        return 1;
-    }
-    if end - x > most {
-        return most;
-    }
-    end - x
-}
-
-// Whether v ticks are enough for their demand: then v bounds the reach.
-fn is_enough(groups: &[Group], phases: &[u32; MAX_TABLES], x: u32, v: u32) -> bool
-    requires fine { AllFine groups.now }
-    requires phased { Phased groups.now phases.now }
-    requires some { 1 ≤ v }
-    requires ends { x + v ≤ max_hyperperiod }
-    ensures { result ≡ nat_le (demand_of groups.now (λ i. slice_index phases.now i) x v) (x + v) }
-{
-    demand(groups, phases, x, v) <= x + v
-}
-
-// The first choice with its reach, to begin with.
-pub(crate) fn first_choice(groups: &[Group], choices: &[[u32; MAX_TABLES]], window: Window) -> Worst
-    requires some { 0 < length choices.now }
-    requires can { Open groups.now choices.now window }
-    ensures { Taken groups.now choices.now window result }
-{
-    let mut phases = choices[0];
-    phases[window.own] = window.phase;
-    let figure = reach(groups, &phases, window.tick, window.limit);
-    Worst {
-        figure,
-        tick: window.tick,
-        phases,
+impl Best {
+    // A number that may bound the reach in the window of tick x as well: the next one often ends where the last one ended.
+    fn guess(&self, x: u32) -> u32
+        ensures value { result ≡ guess_of self.now.end x self.now.worst.figure }
+        ensures some { 1 ≤ result }
+        ensures within { result ≤ self.now.worst.figure }
+    {
+        self.end.saturating_sub(x).clamp(1, self.worst.figure)
     }
 }
 
-// Tries each choice, and keeps the one with the greatest reach.
-pub(crate) fn try_choices(
-    groups: &[Group],
-    choices: &[[u32; MAX_TABLES]],
-    window: Window,
-    best: Best,
-) -> Best
-    requires can { Open groups.now choices.now window }
-    requires some { 1 ≤ best.worst.figure }
-    requires ends { window.tick + best.worst.figure ≤ window.limit }
-    ensures { Bettered groups.now choices.now window best.worst result.worst }
-{
-    let x = window.tick;
-    let mut worst = best.worst;
-    let mut end = best.end;
-    'choices: for choice in choices {
-        let mut phases = *choice;
+impl Search<'_> {
+    // The tables with the phases of a choice, and the window's phase put in for the own table.
+    fn phasing(&self, window: Window, choice: [u32; MAX_TABLES]) -> Phasing<'_>
+        requires { Phased self.now.groups.items (slice_set choice window.own window.phase) }
+        ensures groups { result.groups.now ≡ self.now.groups.items }
+        ensures phases { result.phases ≡ slice_set choice window.own window.phase }
+    {
+        let mut phases = choice;
         phases[window.own] = window.phase;
-        if is_enough(groups, &phases, x, guess(end, x, worst.figure)) {
-            continue 'choices;
-        }
-        if is_enough(groups, &phases, x, worst.figure) {
-            continue 'choices;
-        }
-        let figure = reach(groups, &phases, x, window.limit);
-        end = x + figure;
-        if figure > worst.figure {
-            worst = Worst {
-                figure,
-                tick: x,
-                phases,
-            };
+        Phasing {
+            groups: self.groups.as_slice(),
+            phases,
         }
     }
-    Best { worst, end }
+
+    // The first choice with its reach, to begin with.
+    pub(crate) fn first_choice(&self, window: Window) -> Worst
+        requires some { 0 < length self.now.choices.items }
+        requires can { Open self.now.groups.items self.now.choices.items window }
+        ensures { Taken self.now.groups.items self.now.choices.items window result }
+    {
+        let phasing = self.phasing(window, self.choices[0]);
+        Worst {
+            figure: phasing.reach(window),
+            tick: window.tick,
+            phases: phasing.phases,
+        }
+    }
+
+    // Tries each choice, and keeps the one with the greatest reach.
+    pub(crate) fn try_choices(&self, window: Window, mut best: Best) -> Best
+        requires can { Open self.now.groups.items self.now.choices.items window }
+        requires ends { window.tick + best.worst.figure ≤ window.limit }
+        ensures { Bettered self.now.groups.items self.now.choices.items window best.worst result.worst }
+    {
+        let tick = window.tick;
+        'choices: for choice in &self.choices {
+            let phasing = self.phasing(window, *choice);
+            let guess = best.guess(tick);
+            if phasing.is_enough(Span { tick, ticks: guess }) {
+                continue 'choices;
+            }
+            let most = best.worst.figure;
+            if phasing.is_enough(Span { tick, ticks: most }) {
+                continue 'choices;
+            }
+            let figure = phasing.reach(window);
+            best.end = tick + figure;
+            if figure > most {
+                best.worst = Worst {
+                    figure,
+                    tick,
+                    phases: phasing.phases,
+                };
+            }
+        }
+        best
+    }
 }

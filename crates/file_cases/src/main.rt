@@ -2,10 +2,11 @@
 // and what the plan then holds.
 #![tactic(auto)]
 
-use anyhow::anyhow;
+use anyhow::Context;
 use plan::{Fault, Plan};
 use std::alloc::{AllocError, Global};
 
+// Not `to_digit(16)`, which takes lower case too.
 fn digit(b: u8) -> Option<u8> {
     match b {
         b'0'..=b'9' => Some(b - b'0'),
@@ -16,34 +17,23 @@ fn digit(b: u8) -> Option<u8> {
 
 // The bytes that pairs of hexadecimal digits stand for; what is no digit is passed over.
 fn decoded(heap: Global, text: &[u8]) -> Result<Vec<u8>, AllocError> {
-    let mut bytes = Vec::new(heap);
-    let mut high = None;
-    for b in text {
-        if let Some(d) = digit(*b) {
-            if let Some(h) = high {
-                let h: u8 = h;
-                bytes.push(h.wrapping_mul(16) | d)?;
-                high = None;
-            } else {
-                high = Some(d);
-            }
-        }
-    }
-    Ok(bytes)
+    let digits: Vec<u8> = text.iter().filter_map(|b| digit(*b)).collect(heap)?;
+    let (pairs, _) = digits.as_chunks::<2>();
+    pairs
+        .iter()
+        .map(|[high, low]| high << 4 | low)
+        .collect(heap)
 }
 
 fn try_case(rt: &HostRuntime, plan: &mut Plan, line: &str) -> anyhow::Result<()> {
-    let Some((label, text)) = line.split_once(':') else {
-        return Err(anyhow!("a case has a label and a colon"));
-    };
+    let (label, text) = line
+        .split_once(':')
+        .context("a case has a label and a colon")?;
     let file = decoded(rt.alloc(), text.as_bytes())?;
-    match plan.read(rt.alloc(), file.as_slice()) {
+    match plan.read(rt.alloc(), &file) {
         Ok(()) => print!(rt; "{label}: READ")?,
-        Err(Fault::At { row, byte }) => {
-            let number = row.number();
-            print!(rt; "{label}: FAULT {number} {byte}")?
-        }
-        Err(Fault::Memory) => return Err(anyhow!("no memory for the plan")),
+        Err(fault @ Fault::At { .. }) => print!(rt; "{label}: {fault}")?,
+        Err(fault) => return Err(fault.into()),
     }
     let tables = plan.tables().len();
     let points = plan.points().len();
@@ -57,7 +47,7 @@ fn try_case(rt: &HostRuntime, plan: &mut Plan, line: &str) -> anyhow::Result<()>
 fn run(rt: &HostRuntime) -> anyhow::Result<()> {
     let mut plan = Plan::new(rt.alloc())?;
     for line in rt.lines(rt.alloc()) {
-        try_case(rt, &mut plan, line?.as_str())?;
+        try_case(rt, &mut plan, &line?)?;
     }
     Ok(())
 }

@@ -1,5 +1,3 @@
-pub mod Fronts
 pub mod Capped
 pub mod Splits
-pub mod Shapes
 pub mod Spelled

@@ -1,5 +1,5 @@
 -- A line that spells an order asks for that order.
-use Rattle.std.proofs.Common.{◌≡◌, ℕ, ◌^◌, ◌<◌, ◌≤◌, true, false, List, [], ◌∷◌, ◌++◌, Some, codes, decimal, sym, ap, ◌∙◌, append_assoc, append-nil, arith, rules}
+use Rattle.std.proofs.Common.{◌≡◌, ℕ, ◌^◌, ◌<◌, ◌≤◌, true, false, List, [], ◌∷◌, ◌++◌, Option, Some, codes, decimal, sym, ap, ◌∙◌, append_assoc, append-nil, arith, rules}
 use Rattle.std.proofs.lemmas.Fmt.{decimal_nonempty, digits_decimal, digits_value-decimal}
 use Rattle.std.proofs.lemmas.Str.Parse.{IsNumeralModel, numerals_by_fold}
 use Rattle.std.proofs.lemmas.Bool.{cond-false, and_parts}
@@ -9,7 +9,7 @@ use Rattle.orders.specs.declared.order.Order.TheVariants.{Start, Stop, State, Ti
 use Rattle.orders.specs.Words.{blank, before, words_after, words_of}
 use Rattle.orders.specs.Numbers.{digit, all_digits, value_after, greatest, number_of}
 use Rattle.orders.specs.Lines.{with_one, with_two, given, asked, order_of}
-use Rattle.orders.specs.Laws.{spelled, Held}
+use Rattle.orders.specs.Laws.{spelled, Held, ReadsBack}
 use Rattle.orders.proofs.Capped.{number_some}
 use Rattle.orders.proofs.Splits.{before_some}
 
@@ -21,7 +21,7 @@ fits n h = omega arith
 
 decimal_number : (n : ℕ) → n ≤ greatest → number_of (decimal n) ≡ Some n
 decimal_number n h =
-    sym (number_some (decimal n) n (decimal_nonempty n (fits n h)) (digits_decimal own n (fits n h)) (omega (arith, digits_value-decimal own n (fits n h))))
+    sym (number_some (decimal n) n (let some = decimal_nonempty n (fits n h) in grind arith) (digits_decimal own n (fits n h)) (omega (arith, digits_value-decimal own n (fits n h))))
 
 -- digits belong to one word
 digit_solid : (b : ℕ) → digit b ≡ true → blank b ≡ false
@@ -51,7 +51,7 @@ asked_one : (verb : List ℕ) (n : ℕ) → n ≤ greatest → asked (verb ∷ w
 asked_one verb n h =
     ap (λ ws. asked (verb ∷ ws)) (last_word n h) ∙ ap (λ k. given k (λ i. with_one verb i)) (decimal_number n h)
 
-pub reads_back : (o : Order) → Held o → order_of (spelled o) ≡ Some o
+reads_back : (o : Order) → Held o → order_of (spelled o) ≡ Some o
 reads_back (Start t d) h =
     ap (λ ws. asked (codes "start" ∷ ws)) (next_word t (decimal d) h.0 ∙ ap (λ ws. decimal t ∷ ws) (last_word d h.1))
     ∙ ap (λ k. given k (λ i. given (number_of (decimal d)) (λ j. with_two (codes "start") i j))) (decimal_number t h.0)
@@ -59,3 +59,6 @@ reads_back (Start t d) h =
 reads_back (Stop t) h = asked_one (codes "stop") t h
 reads_back (State t) h = asked_one (codes "state") t h
 reads_back (Ticks n) h = asked_one (codes "tick") n h
+
+pub reads_back_at : (line : List ℕ) (r : Option Order) → r ≡ order_of line → ReadsBack line r
+reads_back_at line r e = λ o h f. e ∙ ap order_of f ∙ reads_back o h

@@ -4,7 +4,6 @@
 mod numbers;
 mod order;
 mod reading;
-mod words;
 
 pub use order::Order;
 pub use reading::read_order;

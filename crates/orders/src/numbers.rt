@@ -1,34 +1,16 @@
 // Decimal numbers.
-ghost use Rattle.std.specs.Prelude.{◌≡◌, ◌+◌, ◌-◌, ◌*◌, min};
-ghost use Rattle.orders.specs.Numbers.{digit, greatest, number_of};
+ghost use Rattle.std.specs.Prelude.{◌≡◌};
+ghost use Rattle.orders.specs.Numbers.{number_of};
 
-fn is_digit(byte: u8) -> bool
-    ensures { result ≡ digit byte }
-{
-    byte >= b'0' && byte <= b'9'
-}
-
-// A number with one more digit behind it; one that is too large is as large as a number can be.
-fn with_digit(number: u64, byte: u8) -> u64
-    ensures { result ≡ min (number * 10 + (byte - 48)) greatest }
-{
-    let digit = byte.saturating_sub(b'0');
-    number.saturating_mul(10).saturating_add(u64::from(digit))
-}
-
-// The number that a word spells.
+// The number that a word spells; one that is too large is as large as a number can be. (`parse` refuses that, and takes a sign.)
 pub(crate) fn read_number(word: &[u8]) -> Option<u64>
     ensures { result ≡ number_of word.now }
 {
-    if word.is_empty() {
+    if word.is_empty() || !word.iter().all(|byte| byte.is_ascii_digit()) {
         return None;
     }
-    let mut number: u64 = 0;
-    for byte in word {
-        if !is_digit(*byte) {
-            return None;
-        }
-        number = with_digit(number, *byte);
-    }
-    Some(number)
+    let digits = word.iter().map(|byte| u64::from(byte.saturating_sub(b'0')));
+    Some(digits.fold(0u64, |number, digit| {
+        number.saturating_mul(10).saturating_add(digit)
+    }))
 }

@@ -1,5 +1,5 @@
 // What a line asks for.
-#[derive(Clone, Copy)]
+#[derive(Clone, Copy, Debug, PartialEq, Eq)]
 pub enum Order {
     Start { table: u64, delay: u64 },
     Stop { table: u64 },

@@ -1,98 +1,54 @@
 // What a line asks for, by its words.
-ghost use Rattle.std.specs.Prelude.{◌≡◌};
-ghost use Rattle.orders.specs.Cuts.{FirstWords};
-ghost use Rattle.orders.specs.Lines.{alone, with_one, with_two, order_of};
+ghost use Rattle.std.specs.Prelude.{◌≡◌, ℕ, List};
+ghost use Rattle.orders.specs.Words.{blank, words_of, BeginsWith};
+ghost use Rattle.orders.specs.Lines.{asked, order_of};
 ghost use Rattle.orders.specs.Laws.{ReadsBack};
 
 use crate::numbers::read_number;
 use crate::order::Order;
-use crate::words::{cut_word, is_word};
 
-// The words of a line as far as they can matter: with a fourth it cannot be read.
-#[derive(Clone, Copy)]
-struct Words<'a> {
-    verb: &'a [u8],
-    first: &'a [u8],
-    second: &'a [u8],
-    more: &'a [u8],
+// The library's own white space of ASCII lacks the vertical tab.
+fn is_blank(byte: u8) -> bool
+    ensures { result ≡ blank byte }
+{
+    matches!(byte, b' ' | b'\t'..=b'\r')
 }
 
-// What a verb asks for with no number.
-fn order_alone(verb: &[u8]) -> Option<Order>
-    ensures { result ≡ alone verb.now }
+// The words of a line in order, as far as they can matter: with a fourth it cannot be read.
+fn first_words(line: &[u8]) -> [Option<&[u8]>; 4]
+    ensures { BeginsWith (words_of line.now) result }
 {
-    if is_word(verb, b"tick") {
-        return Some(Order::Ticks { count: 1 });
-    }
-    None
+    let mut words = line
+        .split(|byte| is_blank(*byte))
+        .filter(|word| !word.is_empty());
+    let verb = words.next();
+    let first = words.next();
+    let second = words.next();
+    let more = words.next();
+    [verb, first, second, more]
 }
 
-// What a verb asks for with one number.
-fn order_with_one(verb: &[u8], number: u64) -> Option<Order>
-    ensures { result ≡ with_one verb.now number }
+// What words ask for, told as far as they can matter: a verb with up to two numbers.
+fn order_in(told: [Option<&[u8]>; 4]) -> Option<Order>
+    ensures { (words : List (List ℕ)) → BeginsWith words told.entry → result ≡ asked words }
 {
-    if is_word(verb, b"stop") {
-        return Some(Order::Stop { table: number });
+    match told {
+        [Some(b"start"), Some(first), Some(second), None] => Some(Order::Start {
+            table: read_number(first)?,
+            delay: read_number(second)?,
+        }),
+        [Some(b"stop"), Some(table), None, _] => Some(Order::Stop {
+            table: read_number(table)?,
+        }),
+        [Some(b"state"), Some(table), None, _] => Some(Order::State {
+            table: read_number(table)?,
+        }),
+        [Some(b"tick"), None, ..] => Some(Order::Ticks { count: 1 }),
+        [Some(b"tick"), Some(count), None, _] => Some(Order::Ticks {
+            count: read_number(count)?,
+        }),
+        _ => None,
     }
-    if is_word(verb, b"state") {
-        return Some(Order::State { table: number });
-    }
-    if is_word(verb, b"tick") {
-        return Some(Order::Ticks { count: number });
-    }
-    None
-}
-
-// What a verb asks for with two numbers.
-fn order_with_two(verb: &[u8], first: u64, second: u64) -> Option<Order>
-    ensures { result ≡ with_two verb.now first second }
-{
-    if is_word(verb, b"start") {
-        return Some(Order::Start {
-            table: first,
-            delay: second,
-        });
-    }
-    None
-}
-
-// The first four words of a line, empty where it has fewer.
-fn first_words<'a>(line: &'a [u8]) -> Words<'a>
-    ensures { FirstWords line.now result.verb.now result.first.now result.second.now result.more.now }
-{
-    let verb = cut_word(line);
-    let first = cut_word(verb.rest);
-    let second = cut_word(first.rest);
-    let more = cut_word(second.rest);
-    Words {
-        verb: verb.word,
-        first: first.word,
-        second: second.word,
-        more: more.word,
-    }
-}
-
-// What a line asks for, by the number of its words.
-fn order_in(line: &[u8]) -> Option<Order>
-    ensures { result ≡ order_of line.now }
-{
-    let words = first_words(line);
-    if words.first.is_empty() {
-        return order_alone(words.verb);
-    }
-    let Some(one) = read_number(words.first) else {
-        return None;
-    };
-    if words.second.is_empty() {
-        return order_with_one(words.verb, one);
-    }
-    let Some(two) = read_number(words.second) else {
-        return None;
-    };
-    if words.more.is_empty() {
-        return order_with_two(words.verb, one, two);
-    }
-    None
 }
 
 // What a line asks for, if it can be read.
@@ -100,5 +56,5 @@ pub fn read_order(line: &[u8]) -> Option<Order>
     ensures meaning { result ≡ order_of line.now }
     ensures back { ReadsBack line.now result }
 {
-    order_in(line)
+    order_in(first_words(line))
 }

@@ -1,10 +1,32 @@
 -- What `each`, `total` and `least` tell of the numbers below a bound. Assumes nothing.
-use Rattle.std.proofs.Common.{◌≡◌, ℕ, zero, suc, ◌+◌, ◌-◌, ◌<◌, ◌≤◌, Bool, true, false, cond, sym, refl, ap, ◌∙◌, subst, ⊎_elim, add-one, arith}
+use Rattle.std.proofs.Common.{◌≡◌, ℕ, zero, suc, ◌+◌, ◌<◌, ◌≤◌, Bool, true, false, cond, ◌&&◌, List, [], ◌∷◌, length, get_or, sym, refl, ap, ◌∙◌, subst, ⊎_elim, add-one, arith}
 use Rattle.std.proofs.lemmas.Bool.{and_parts, and_from, and_cases, cases_eq, cases_Bool, both_ways}
-use Rattle.theory.specs.Counting.{each, total, count, or_else, least}
+use Rattle.std.specs.List.{sum_by, list_all}
+use Rattle.std.proofs.Math.Bool.{and-true, and_assoc}
+use Rattle.std.proofs.lemmas.List.Sums.{sum_by-cons}
+use Rattle.theory.specs.Counting.{each, total, or_else, least}
 
 pub total_more : (f : ℕ → ℕ) (n : ℕ) → total (n + 1) f ≡ total n f + f n
 total_more f n = ap (λ k. total k f) (add-one n)
+
+-- the number at 0 may also come first
+total_first : (n : ℕ) (f : ℕ → ℕ) → total (suc n) f ≡ f 0 + total n (λ k. f (suc k))
+total_first zero f = omega arith
+total_first (suc n) f = omega (arith, total_first n f)
+
+each_first : (n : ℕ) (p : ℕ → Bool) → each (suc n) p ≡ (p 0 && each n (λ k. p (suc k)))
+each_first zero p = sym (and-true (p 0))
+each_first (suc n) p = ap (λ b. b && p (suc n)) (each_first n p) ∙ and_assoc (p 0) (each n (λ k. p (suc k))) (p (suc n))
+
+-- over the places of a list: the list's own sum, and its own test
+module _ {X : Type 0} (d : X) where
+  pub total_list : (f : X → ℕ) (xs : List X) → total (length xs) (λ k. f (get_or xs k d)) ≡ sum_by f xs
+  total_list f [] = refl
+  total_list f (x ∷ xs) = omega (arith, total_first (length xs) (λ k. f (get_or (x ∷ xs) k d)), total_list f xs, sum_by-cons f x xs)
+
+  pub each_list : (p : X → Bool) (xs : List X) → each (length xs) (λ k. p (get_or xs k d)) ≡ list_all p xs
+  each_list p [] = refl
+  each_list p (x ∷ xs) = each_first (length xs) (λ k. p (get_or (x ∷ xs) k d)) ∙ ap (λ b. p x && b) (each_list p xs)
 
 module _ (p : ℕ → Bool) where
   pub each_at : (n k : ℕ) → k < n → each n p ≡ true → p k ≡ true
@@ -29,9 +51,6 @@ module _ (p : ℕ → Bool) where
       (λ last. (n, omega arith, last))
       (and_cases (each n p) (p n) e)
 
-  pub each_more : (n : ℕ) → each n p ≡ true → p n ≡ true → each (n + 1) p ≡ true
-  each_more n e h = each_from (n + 1) (λ k lt. ⊎_elim (λ same. subst (λ i. p i ≡ true) (sym same) h) (λ other. each_at n k (omega arith) e) (cases_eq k n))
-
   or_else_zero : (a b : ℕ) → or_else a b ≡ 0 → (a ≡ 0) × (b ≡ 0)
   or_else_zero zero b e = (refl, e)
   or_else_zero (suc a) b e = absurd (omega (arith, e))
@@ -39,35 +58,6 @@ module _ (p : ℕ → Bool) where
   cond_zero : (b : Bool) (n : ℕ) → cond b (suc n) 0 ≡ 0 → b ≡ false
   cond_zero true n e = absurd (omega (arith, e))
   cond_zero false n e = refl
-
-  pub least_nothing : least 0 p ≡ 0
-  unfolding least
-  least_nothing = refl
-
-  -- nothing passes below h, and h does not pass either
-  pub least_none_more : (h : ℕ) → 1 ≤ h → least (h - 1) p ≡ 0 → p h ≡ false → least (h + 1 - 1) p ≡ 0
-  unfolding least
-  least_none_more zero pos e f = absurd (omega arith)
-  least_none_more (suc n) pos e f =
-      let a : suc n - 1 ≡ n = omega arith in
-      let b : suc n + 1 - 1 ≡ suc n = omega arith in
-      rw (b, rw a at e, f)
-
-  -- h passes, and nothing below it
-  pub least_found : (h m : ℕ) → 1 ≤ h → least (h - 1) p ≡ 0 → p h ≡ true → h ≤ m → least m p ≡ h
-  unfolding least
-  least_found h zero pos e t le = absurd (omega arith)
-  least_found h (suc m) pos e t le =
-      ⊎_elim
-      (λ same.
-      let q : h - 1 ≡ m = omega arith in
-      rw (rw q at e) (rw (subst (λ i. p i ≡ true) same t) (sym same)))
-      (λ other. let below = least_found h m pos e t (omega arith) in let more : or_else h (cond (p (suc m)) (suc m) 0) ≡ h = kept h _ pos in rw below more)
-      (cases_eq h (suc m))
-    where
-      kept : (a b : ℕ) → 1 ≤ a → or_else a b ≡ a
-      kept zero b pos = absurd (omega arith)
-      kept (suc a) b pos = refl
 
   pub least_none_at : (n k : ℕ) → least n p ≡ 0 → 0 < k → k ≤ n → p k ≡ false
   unfolding least
@@ -97,10 +87,3 @@ module _ (p : ℕ → Bool) where
   unfolding least
   least_is zero h e pos = absurd (omega (arith, e))
   least_is (suc n) h e pos = least_step n h (least n p) refl (λ q. least_is n h q pos) e pos
-
-  -- one number more, that passes or not
-  pub count_yes : (n m k : ℕ) → m ≡ count n p → k ≡ m + 1 → p n ≡ true → k ≡ count (n + 1) p
-  count_yes n m k e f t = rw (total_more (λ i. cond (p i) 1 0) n, t) (f ∙ ap (λ i. i + 1) e)
-
-  pub count_no : (n m k : ℕ) → m ≡ count n p → k ≡ m → p n ≡ false → k ≡ count (n + 1) p
-  count_no n m k e f t = rw (total_more (λ i. cond (p i) 1 0) n, t) (omega (arith, e, f))

@@ -11,7 +11,7 @@ use Rattle.plan.specs.Entries.{Entry, ends, blank, first_row, plan_rows, added}
 use Rattle.plan.specs.File.{width, entry_at, is_end, rows_at, after_end, sets, blames, meaning}
 use Rattle.plan.specs.Laws.{Written, Leads, Whole, Blame, Told}
 use Rattle.plan.specs.declared.drafts.Draft.{Draft}
-use Rattle.plan.specs.Drafts.{Filled, Read}
+use Rattle.plan.specs.Drafts.{Filled}
 use Rattle.plan.proofs.RowOrder.{right_from, fine_from}
 use Rattle.plan.proofs.Walk.{Comes, walked}
 use Rattle.plan.proofs.Setting.{Partial, partial_blank, keeps, finishes}
@@ -87,7 +87,7 @@ module _ (file : List ℕ) where
         within = rw h.4 (blamed_within file at h.1 row h.2.inside h.3);
       }
 
-  -- a fault, and want of memory, leave the plan as it was
-  pub fails : (c : Content) (d : Draft) (f : Fault) → Filled (meaning file) (Err f) d → Read (meaning file) c (Err f) c × Told file (Err f) c
-  fails c d (At row byte) h = ((h, refl), blames_blame row byte h)
-  fails c d Memory h = (refl, tt)
+  -- a fault, and want of memory, tell of the file what they have to
+  pub fails : (c : Content) (d : Draft) (f : Fault) → Filled (meaning file) (Err f) d → Told file (Err f) c
+  fails c d (At row byte) h = blames_blame row byte h
+  fails c d Memory h = tt

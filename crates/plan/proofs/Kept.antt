@@ -1,6 +1,7 @@
 -- The rules of a plan as facts about each table, point and task, from their tests and back. Assumes nothing.
-use Rattle.std.proofs.Common.{◌≡◌, ℕ, ◌-◌, ◌<◌, ◌≤◌, Bool, true, ◌||◌, eqb, ⊎_elim, arith}
-use Rattle.std.proofs.lemmas.Bool.{and_parts, and_from, or_cases, or_left, or_right, leb-true, ltb-true, eqb-true, le-leb, lt-ltb, eq-eqb, cases_eq}
+use Rattle.std.proofs.Common.{◌≡◌, ℕ, ◌-◌, ◌<◌, ◌≤◌, true, arith}
+use Rattle.std.proofs.lemmas.Bool.{and_parts, leb-true, ltb-true}
+use Rattle.std.proofs.lemmas.Bool.Decides.{nat_tests}
 use Rattle.plan.specs.Limits.{max_tables, max_duration, max_points, max_tasks_of_point, max_tasks}
 use Rattle.theory.specs.Counting.{in_range}
 use Rattle.plan.specs.Content.{Content, table_count, point_count, task_count, duration_of, table_of_point, position_of_point, task_at, table_of, points_of, tasks_of}
@@ -38,65 +39,44 @@ pub record Lawful (c : Content) : Type 0 where
   pub hyperperiod : 0 < hyperperiod_of c
 
 pub range_from : (low high n : ℕ) → in_range low high n ≡ true → (low ≤ n) × (n ≤ high)
-range_from low high n e = let p = and_parts _ _ e in (leb-true low n p.0, leb-true n high p.1)
+range_from low high n e = (grind (arith, nat_tests), grind (arith, nat_tests))
 
 pub range_to : (low high n : ℕ) → low ≤ n → n ≤ high → in_range low high n ≡ true
-range_to low high n l h = and_from _ _ (le-leb low n l) (le-leb n high h)
-
--- a test that is only asked of what has something before it
-first_or_from : (n : ℕ) (b : Bool) → (eqb n 0 || b) ≡ true → 0 < n → b ≡ true
-first_or_from n b e pos = ⊎_elim (λ z. absurd (omega (arith, eqb-true n 0 z))) (λ t. t) (or_cases (eqb n 0) b e)
-
-first_or_to : (n : ℕ) (b : Bool) → (0 < n → b ≡ true) → (eqb n 0 || b) ≡ true
-first_or_to n b h = ⊎_elim (λ z. or_left (eqb n 0) b (eq-eqb n 0 z)) (λ z. or_right (eqb n 0) b (h (omega arith))) (cases_eq n 0)
+range_to low high n l h = grind (arith, nat_tests)
 
 module _ (c : Content) where
   table_from : (i : ℕ) → table_rule c i ≡ true → TableKept c i
-  table_from i e =
-      let p = and_parts _ _ e in
-      let a = range_from 1 max_duration (duration_of c i) p.0 in
-      let b = range_from 1 max_points (points_of c i) p.1 in
-      record { long = a.0; short = a.1; filled = b.0; few = b.1 }
+  table_from i e = record { long = grind (arith, nat_tests); short = grind (arith, nat_tests); filled = grind (arith, nat_tests); few = grind (arith, nat_tests) }
 
   table_to : (i : ℕ) → TableKept c i → table_rule c i ≡ true
-  table_to i h = and_from _ _ (range_to 1 max_duration (duration_of c i) h.long h.short) (range_to 1 max_points (points_of c i) h.filled h.few)
+  table_to i h = grind (arith, nat_tests)
 
   point_from : (j : ℕ) → point_rule c j ≡ true → PointKept c j
   point_from j e =
-      let p = and_parts _ _ e in
-      let q = and_parts _ _ p.0 in
-      let r = and_parts _ _ q.0 in
-      let n = range_from 1 max_tasks_of_point (tasks_of c j) p.1 in
-      record { table_in = ltb-true _ _ r.0; position_in = ltb-true _ _ r.1; rises = first_or_from j _ q.1; filled = n.0; few = n.1 }
+      record {
+        table_in = grind (arith, nat_tests);
+        position_in = grind (arith, nat_tests);
+        rises = λ pos. grind (arith, nat_tests);
+        filled = grind (arith, nat_tests);
+        few = grind (arith, nat_tests);
+      }
 
   point_to : (j : ℕ) → PointKept c j → point_rule c j ≡ true
-  point_to j h =
-      and_from _ _ (and_from _ _ (and_from _ _ (lt-ltb _ _ h.table_in) (lt-ltb _ _ h.position_in)) (first_or_to j _ h.rises))
-      (range_to 1 max_tasks_of_point (tasks_of c j) h.filled h.few)
+  point_to j h = let rises = h.rises in grind (arith, nat_tests)
 
   task_from : (k : ℕ) → task_rule c k ≡ true → TaskKept c k
   task_from k e =
-      let p = and_parts _ _ e in
-      let q = and_parts _ _ p.0 in
-      let r = and_parts _ _ q.0 in
-      let s = and_parts _ _ r.0 in
-      let t = and_parts _ _ s.0 in
       record {
-        point_in = ltb-true _ _ t.0;
-        rises = λ pos. leb-true _ _ (first_or_from k _ t.1 pos);
-        named = s.1;
-        runs = leb-true _ _ r.1;
-        fits = leb-true _ _ q.1;
-        due = leb-true _ _ p.1;
+        point_in = grind (arith, nat_tests);
+        rises = λ pos. grind (arith, nat_tests);
+        named = (and_parts _ _ (and_parts _ _ (and_parts _ _ (and_parts _ _ e).0).0).0).1;
+        runs = grind (arith, nat_tests);
+        fits = grind (arith, nat_tests);
+        due = grind (arith, nat_tests);
       }
 
   task_to : (k : ℕ) → TaskKept c k → task_rule c k ≡ true
-  task_to k h =
-      and_from _ _
-      (and_from _ _
-      (and_from _ _ (and_from _ _ (and_from _ _ (lt-ltb _ _ h.point_in) (first_or_to k _ (λ pos. le-leb _ _ (h.rises pos)))) h.named) (le-leb _ _ h.runs))
-      (le-leb _ _ h.fits))
-      (le-leb _ _ h.due)
+  task_to k h = let rises = h.rises in grind (arith, nat_tests)
 
   pub lawful_from : lawful c ≡ true → Lawful c
   lawful_from e =
@@ -118,12 +98,7 @@ module _ (c : Content) where
 
   pub lawful_to : Lawful c → lawful c ≡ true
   lawful_to h =
-      and_from _ _
-      (and_from _ _
-      (and_from _ _
-      (and_from _ _
-      (and_from _ _ (range_to 1 max_tables (table_count c) h.some h.few) (each_from (table_rule c) (table_count c) (λ i lt. table_to i (h.tables i lt))))
-      (each_from (point_rule c) (point_count c) (λ j lt. point_to j (h.points j lt))))
-      (le-leb _ _ h.few_tasks))
-      (each_from (task_rule c) (task_count c) (λ k lt. task_to k (h.tasks k lt))))
-      (lt-ltb _ _ h.hyperperiod)
+      let tables = each_from (table_rule c) (table_count c) (λ i lt. table_to i (h.tables i lt)) in
+      let points = each_from (point_rule c) (point_count c) (λ j lt. point_to j (h.points j lt)) in
+      let tasks = each_from (task_rule c) (task_count c) (λ k lt. task_to k (h.tasks k lt)) in
+      grind (arith, nat_tests)

@@ -1,4 +1,5 @@
 pub mod Counted
+pub mod Ranges
 pub mod Kept
 pub mod Work
 pub mod RowOrder

@@ -1,29 +1,28 @@
 -- How the rows on what a plan holds sit among all rows. Assumes nothing.
-use Rattle.std.proofs.Common.{◌≡◌, ℕ, ◌+◌, ◌-◌, ◌≤◌, Bool, true, false, ◌&&◌, eqb, ltb, leb, List, [], ◌∷◌, ◌++◌, length, Some, None, sym, refl, subst, arith}
+use Rattle.std.proofs.Common.{◌≡◌, ℕ, zero, suc, get_or, ◌+◌, ◌-◌, ◌≤◌, Bool, true, false, ◌&&◌, eqb, ltb, leb, List, [], ◌∷◌, ◌++◌, length, Some, None, option_map, sym, refl, arith}
+use Rattle.std.specs.List.{find}
+use Rattle.std.proofs.lemmas.Option.{none-some}
 use Rattle.std.proofs.lemmas.Bool.Decides.{nat_tests}
 use Rattle.plan.specs.declared.faults.Row.{Row}
-use Rattle.plan.specs.declared.faults.Row.TheVariants.{TooSoon, Unfinished, TooMany, OutOfRange, NotRising, Hyperperiod, AfterEnd, EndsEarly, NotCommand}
+use Rattle.plan.specs.declared.faults.Row.TheVariants.{TooSoon, Unfinished, TooMany, OutOfRange, NotRising, Hyperperiod, AfterEnd, NotCommand}
 use Rattle.plan.specs.Content.{Content}
 use Rattle.plan.specs.Entries.{Entry, first_row, plan_rows, too_soon, unfinished, too_many, out_of_range, not_rising, over_hyperperiod}
 use Rattle.plan.specs.File.{rows_at, blamed, not_command, ends_early, after_end, entry_at, width}
 
+-- a search for the first row whose test holds
+pub first_found : (rows : List (Bool × Row)) → option_map (λ r. r.1) (find (λ r. r.0) rows) ≡ first_row rows
+first_found [] = refl
+first_found ((true, r) ∷ rows) = refl
+first_found ((false, r) ∷ rows) = first_found rows
+
 some_before : (xs ys : List (Bool × Row)) (row : Row) → first_row xs ≡ Some row → first_row (xs ++ ys) ≡ Some row
-some_before [] ys row e = let z : ◌≡◌ {A = ℕ} 0 1 = cc in absurd (omega arith)
+some_before [] ys row e = absurd (none-some row e)
 some_before ((true, r) ∷ xs) ys row e = e
 some_before ((false, r) ∷ xs) ys row e = some_before xs ys row e
 
 module _ (file : List ℕ) (at : ℕ) where
-  hit : (r row : Row) → blamed r file at ≡ at → Some r ≡ Some row → blamed row file at ≡ at
-  hit r row h e = let q : r ≡ row = cc in subst (λ x. blamed x file at ≡ at) q h
-
   own_place : (a b c d e f : Bool) (row : Row) → first_row ((a, TooSoon) ∷ (b, Unfinished) ∷ (c, TooMany) ∷ (d, OutOfRange) ∷ (e, NotRising) ∷ (f, Hyperperiod) ∷ []) ≡ Some row → blamed row file at ≡ at
-  own_place true b c d e f row h = hit TooSoon row refl h
-  own_place false true c d e f row h = hit Unfinished row refl h
-  own_place false false true d e f row h = hit TooMany row refl h
-  own_place false false false true e f row h = hit OutOfRange row refl h
-  own_place false false false false true f row h = hit NotRising row refl h
-  own_place false false false false false true row h = hit Hyperperiod row refl h
-  own_place false false false false false false row h = let z : ◌≡◌ {A = ℕ} 0 1 = cc in absurd (omega arith)
+  own_place a b c d e f row h = grind (arith, nat_tests, h)
 
   -- a whole command that breaks a row on what the plan holds breaks that row first, at its own place
   pub plan_row : (c : Content) (row : Row) → not_command file at ≡ false → ends_early file at ≡ false → first_row (plan_rows c (entry_at file at)) ≡ Some row → (first_row (rows_at file at c) ≡ Some row) × (at ≡ blamed row file at)
@@ -31,14 +30,16 @@ module _ (file : List ℕ) (at : ℕ) where
       let k = entry_at file at in
       (rw (known, whole) (some_before (plan_rows c k) ((after_end file at, AfterEnd) ∷ []) row broken), sym (own_place (too_soon c k) (unfinished c k) (too_many c k) (out_of_range c k) (not_rising c k) (over_hyperperiod c k) row broken))
 
--- no row applies: not the first, and none after it
-none_head : (t : Bool) (r : Row) (rows : List (Bool × Row)) → first_row ((t, r) ∷ rows) ≡ None → (t ≡ false) × (first_row rows ≡ None)
-none_head true r rows e = let z : ◌≡◌ {A = ℕ} 0 1 = cc in absurd (omega arith)
-none_head false r rows e = (refl, e)
+-- no row applies: none at any place, and none in a front part
+none_at : (rows : List (Bool × Row)) (k : ℕ) → first_row rows ≡ None → (get_or rows k (false, NotCommand)).0 ≡ false
+none_at [] k e = refl
+none_at ((true, r) ∷ rows) k e = absurd (none-some r (sym e))
+none_at ((false, r) ∷ rows) zero e = refl
+none_at ((false, r) ∷ rows) (suc k) e = none_at rows k e
 
-none_before : (xs ys : List (Bool × Row)) → first_row (xs ++ ys) ≡ None → (first_row xs ≡ None) × (first_row ys ≡ None)
-none_before [] ys e = (refl, e)
-none_before ((true, r) ∷ xs) ys e = let z : ◌≡◌ {A = ℕ} 0 1 = cc in absurd (omega arith)
+none_before : (xs ys : List (Bool × Row)) → first_row (xs ++ ys) ≡ None → first_row xs ≡ None
+none_before [] ys e = refl
+none_before ((true, r) ∷ xs) ys e = absurd (none-some r (sym e))
 none_before ((false, r) ∷ xs) ys e = none_before xs ys e
 
 -- a command that breaks no row on what the plan holds
@@ -52,18 +53,8 @@ pub record Fine (c : Content) (e : Entry) : Type 0 where
 
 pub fine_from : (c : Content) (e : Entry) → first_row (plan_rows c e) ≡ None → Fine c e
 fine_from c e h =
-    let r6 = (over_hyperperiod c e, Hyperperiod) ∷ [] in
-    let r5 = (not_rising c e, NotRising) ∷ r6 in
-    let r4 = (out_of_range c e, OutOfRange) ∷ r5 in
-    let r3 = (too_many c e, TooMany) ∷ r4 in
-    let r2 = (unfinished c e, Unfinished) ∷ r3 in
-    let a = none_head (too_soon c e) TooSoon r2 h in
-    let b = none_head (unfinished c e) Unfinished r3 a.1 in
-    let d = none_head (too_many c e) TooMany r4 b.1 in
-    let f = none_head (out_of_range c e) OutOfRange r5 d.1 in
-    let g = none_head (not_rising c e) NotRising r6 f.1 in
-    let i = none_head (over_hyperperiod c e) Hyperperiod [] g.1 in
-    record { soon = a.0; finished = b.0; many = d.0; range = f.0; rising = g.0; hyper = i.0 }
+    let none = none_at (plan_rows c e) in
+    record { soon = none 0 h; finished = none 1 h; many = none 2 h; range = none 3 h; rising = none 4 h; hyper = none 5 h }
 
 -- a known command whose last byte lies within the file has a byte, and room
 pub sized : (n i w : ℕ) → (ltb i n && eqb w 0) ≡ false → leb n (i + (w - 1)) ≡ false → (1 ≤ w) × (i + w ≤ n)
@@ -80,10 +71,13 @@ pub record Right (file : List ℕ) (at : ℕ) (c : Content) : Type 0 where
 
 pub right_from : (file : List ℕ) (at : ℕ) (c : Content) → first_row (rows_at file at c) ≡ None → Right file at c
 right_from file at c e =
-    let later = plan_rows c (entry_at file at) ++ (after_end file at, AfterEnd) ∷ [] in
-    let a = none_head (not_command file at) NotCommand ((ends_early file at, EndsEarly) ∷ later) e in
-    let b = none_head (ends_early file at) EndsEarly later a.1 in
-    let p = none_before (plan_rows c (entry_at file at)) ((after_end file at, AfterEnd) ∷ []) b.1 in
-    let z = none_head (after_end file at) AfterEnd [] p.1 in
-    let w : (1 ≤ width file at) × (at + width file at ≤ length file) = sized (length file) at (width file at) a.0 b.0 in
-    record { known = a.0; whole = b.0; plan = p.0; last = z.0; wide = w.0; room = w.1 }
+    let none : (k : ℕ) → (get_or (rows_at file at c) k (false, NotCommand)).0 ≡ false = λ k. none_at (rows_at file at c) k e in
+    let w : (1 ≤ width file at) × (at + width file at ≤ length file) = sized (length file) at (width file at) (none 0) (none 1) in
+    record {
+      known = none 0;
+      whole = none 1;
+      plan = none_before (plan_rows c (entry_at file at)) ((after_end file at, AfterEnd) ∷ []) (rw (none 0, none 1) at e);
+      last = none 8;
+      wide = w.0;
+      room = w.1;
+    }

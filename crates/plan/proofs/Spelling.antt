@@ -2,11 +2,12 @@
 use Rattle.std.proofs.Common.{◌≡◌, ℕ, zero, suc, ◌+◌, ◌≤◌, Bool, true, false, cond, eqb, List, [], ◌∷◌, ◌++◌, length, get_or, take, Some, None, sym, refl, ap, ◌∙◌, subst, arith, take-append-drop}
 use Rattle.std.proofs.lemmas.List.{append-nil, append_assoc, drop_more, drop-take, take-take}
 use Rattle.std.proofs.lemmas.Bool.{eqb-true, both_ways}
+use Rattle.std.proofs.lemmas.Bool.Decides.{nat_tests}
 use Rattle.plan.specs.declared.faults.Row.{Row}
 use Rattle.plan.specs.declared.faults.Row.TheVariants.{NotCommand, EndsEarly, TooSoon, Unfinished, TooMany, OutOfRange, NotRising, Hyperperiod, AfterEnd}
 use Rattle.plan.specs.Content.{Content}
 use Rattle.plan.specs.Entries.{Entry, set_table, set_point, set_delay, set_task, ends, first_row, plan_rows, added}
-use Rattle.plan.specs.File.{by_first, width, word, part, task_operands, entry_at, is_end, rows_at, blamed, not_command, ends_early, after_end}
+use Rattle.plan.specs.File.{by_first, width, word, part, task_operands, entry_at, is_end, rows_at, blamed, not_command, ends_early}
 use Rattle.plan.specs.Laws.{SpellsWord, Spells, Written, Leads}
 use Rattle.plan.proofs.RowOrder.{sized}
 
@@ -79,12 +80,6 @@ end_is (set_delay n) e = absurd (both_ways false refl e)
 end_is (set_task name x d l) e = absurd (both_ways false refl e)
 end_is ends e = refl
 
-not_first : Some NotCommand ≡ Some AfterEnd → ⊥
-not_first e = let z : ◌≡◌ {A = ℕ} 0 1 = cc in omega arith
-
-not_second : Some EndsEarly ≡ Some AfterEnd → ⊥
-not_second e = let z : ◌≡◌ {A = ℕ} 0 1 = cc in omega arith
-
 -- the byte that is blamed lies within the file or is its length
 pub blamed_within : (file : List ℕ) (at : ℕ) (c : Content) (row : Row) → at ≤ length file → first_row (rows_at file at c) ≡ Some row → blamed row file at ≤ length file
 blamed_within file at c NotCommand le e = le
@@ -95,9 +90,8 @@ blamed_within file at c TooMany le e = le
 blamed_within file at c OutOfRange le e = le
 blamed_within file at c NotRising le e = le
 blamed_within file at c Hyperperiod le e = le
-blamed_within file at c AfterEnd le e = go (not_command file at) (ends_early file at) refl refl e
-  where
-    go : (x y : Bool) → not_command file at ≡ x → ends_early file at ≡ y → cond x (Some NotCommand) (cond y (Some EndsEarly) (first_row (plan_rows c (entry_at file at) ++ (after_end file at, AfterEnd) ∷ []))) ≡ Some AfterEnd → at + 1 ≤ length file
-    go true y p q r = absurd (not_first r)
-    go false true p q r = absurd (not_second r)
-    go false false p q r = let s = sized (length file) at (width file at) p q in omega (arith, s.0, s.1)
+blamed_within file at c AfterEnd le e =
+    let known : not_command file at ≡ false = grind (arith, nat_tests, e) in
+    let whole : ends_early file at ≡ false = grind (arith, nat_tests, e) in
+    let s = sized (length file) at (width file at) known whole in
+    omega (arith, s.0, s.1)

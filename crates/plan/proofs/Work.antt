@@ -1,9 +1,13 @@
 -- Each task's part of the work is small, so that the sum fits. Assumes nothing.
-use Rattle.std.proofs.Common.{◌≡◌, ℕ, ◌*◌, ◌/◌, ◌<◌, ◌≤◌, true, refl, ⊎_elim, mul-le-mul, div-le_self, arith}
+use Rattle.std.proofs.Common.{◌≡◌, ℕ, ◌*◌, ◌<◌, ◌≤◌, true, refl, ⊎_elim, subst, ◌∙◌, mul-le-mul, div-le_self, arith}
+use Rattle.std.specs.List.{All, Contains, sum_by}
+use Rattle.std.proofs.lemmas.List.{get_or_default}
+use Rattle.std.proofs.lemmas.List.Sums.{sum_by-le}
 use Rattle.std.proofs.lemmas.Bool.{and_parts, and_from, eqb-true, eq-eqb, lt-ltb, both_ways, cases_lt}
-use Rattle.plan.specs.Limits.{max_duration, max_hyperperiod}
-use Rattle.plan.specs.Content.{Content, table_count, point_count, task_count, duration_of, task_at, table_of}
-use Rattle.plan.specs.Rules.{divides, common_to, hyperperiod_of, lawful, LeastCommonMultiple}
+use Rattle.plan.specs.declared.records.Task.{Task}
+use Rattle.plan.specs.Limits.{max_tasks, max_duration, max_hyperperiod}
+use Rattle.plan.specs.Content.{Content, no_task, table_count, point_count, task_count, duration_of, table_of_point, task_at}
+use Rattle.plan.specs.Rules.{divides, common_to, hyperperiod_of, task_work, lawful, LeastCommonMultiple}
 use Rattle.plan.proofs.Counted.{each_at, each_from, least_is}
 use Rattle.plan.proofs.Kept.{lawful_from}
 
@@ -26,25 +30,34 @@ hyperperiod_law c kept =
     }
 
 module _ (c : Content) where
-  -- task k's part of the work
-  abbrev pub part : ℕ → ℕ
-  part k = (task_at c k).execution * hyperperiod_of c / duration_of c (table_of c k)
+  pub record Part (t : Task) : Type 0 where
+    pub point_in : t.point < point_count c
+    pub table_in : table_of_point c t.point < table_count c
+    pub divisor : 0 < duration_of c (table_of_point c t.point)
+    pub product : t.execution * hyperperiod_of c ≤ max_duration * max_hyperperiod
+    pub small : task_work c t ≤ max_duration * max_hyperperiod
 
-  pub record Part (k : ℕ) : Type 0 where
-    pub point_in : (task_at c k).point < point_count c
-    pub table_in : table_of c k < table_count c
-    pub divisor : 0 < duration_of c (table_of c k)
-    pub product : (task_at c k).execution * hyperperiod_of c ≤ max_duration * max_hyperperiod
-    pub small : part k ≤ max_duration * max_hyperperiod
+  module _ (kept : lawful c ≡ true) where
+    part_is : (k : ℕ) → k < task_count c → Part (task_at c k)
+    part_is k lt =
+        let l = lawful_from c kept in
+        let t = l.tasks k lt in
+        let p = l.points _ t.point_in in
+        let d = l.tables _ p.table_in in
+        let h = least_is (common_to c.tables) max_hyperperiod (hyperperiod_of c) refl l.hyperperiod in
+        let e : (task_at c k).execution ≤ max_duration = omega (arith, t.fits, t.due, d.short) in
+        let m : (task_at c k).execution * hyperperiod_of c ≤ max_duration * max_hyperperiod = mul-le-mul e h.bound in
+        let q : task_work c (task_at c k) ≤ (task_at c k).execution * hyperperiod_of c = div-le_self _ _ in
+        record { point_in = t.point_in; table_in = p.table_in; divisor = d.long; product = m; small = omega (arith, m, q) }
 
-  pub part_is : lawful c ≡ true → (k : ℕ) → k < task_count c → Part k
-  part_is kept k lt =
-      let l = lawful_from c kept in
-      let t = l.tasks k lt in
-      let p = l.points _ t.point_in in
-      let d = l.tables _ p.table_in in
-      let h = least_is (common_to c.tables) max_hyperperiod (hyperperiod_of c) refl l.hyperperiod in
-      let e : (task_at c k).execution ≤ max_duration = omega (arith, t.fits, t.due, d.short) in
-      let m : (task_at c k).execution * hyperperiod_of c ≤ max_duration * max_hyperperiod = mul-le-mul e h.bound in
-      let q : part k ≤ (task_at c k).execution * hyperperiod_of c = div-le_self _ _ in
-      record { point_in = t.point_in; table_in = p.table_in; divisor = d.long; product = m; small = omega (arith, m, q) }
+    -- of each task that the plan holds
+    pub part_held : (t : Task) → Contains c.tasks t → Part t
+    part_held t (k, lt, e) = subst Part (get_or_default c.tasks k no_task t lt ∙ e) (part_is k lt)
+
+    -- the sum fits
+    pub work_small : sum_by (task_work c) c.tasks ≤ max_tasks * (max_duration * max_hyperperiod)
+    work_small =
+        let few = (lawful_from c kept).few_tasks in
+        let each : All (λ t. task_work c t ≤ max_duration * max_hyperperiod) c.tasks = λ k d lt. subst (λ t. task_work c t ≤ max_duration * max_hyperperiod) (get_or_default c.tasks k no_task d lt) (part_is k lt).small in
+        let sum = sum_by-le (task_work c) (max_duration * max_hyperperiod) c.tasks each in
+        omega (arith, sum, few)

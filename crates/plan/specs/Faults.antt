@@ -1,12 +1,13 @@
--- The numbers of the faults, and how a fault rises from bytes to command to plan. Assumes nothing.
-use Rattle.std.specs.Prelude.{ℕ}
+-- The numbers of the faults, how a fault rises from bytes to command to plan, and what is printed of it. Assumes nothing.
+use Rattle.std.specs.Prelude.{ℕ, List, ◌++◌, codes}
+use Rattle.std.specs.Fmt.{decimal}
 use Rattle.plan.specs.declared.faults.Row.{Row}
 use Rattle.plan.specs.declared.faults.Row.TheVariants.{NotCommand, EndsEarly, TooSoon, Unfinished, TooMany, OutOfRange, NotRising, Hyperperiod, AfterEnd}
 use Rattle.plan.specs.declared.faults.CutShort.{CutShort}
 use Rattle.plan.specs.declared.faults.Garbled.{Garbled}
 use Rattle.plan.specs.declared.faults.Garbled.TheVariants as of-garbled
 use Rattle.plan.specs.declared.faults.Fault.{Fault}
-use Rattle.plan.specs.declared.faults.Fault.TheVariants.{At}
+use Rattle.plan.specs.declared.faults.Fault.TheVariants.{At, Memory}
 
 abbrev pub number_of : Row → ℕ
 number_of NotCommand = 12
@@ -25,3 +26,8 @@ garbled e = of-garbled.CutShort e.length
 abbrev pub raised : Garbled → Fault
 raised (of-garbled.NotCommand b) = At NotCommand b
 raised (of-garbled.CutShort n) = At EndsEarly n
+
+-- the word FAULT, the rule's number and the byte that it names; or that there is no memory
+abbrev pub fault_text : Fault → List ℕ
+fault_text (At row byte) = codes "FAULT " ++ decimal (number_of row) ++ codes " " ++ decimal byte
+fault_text Memory = codes "no memory for the plan"

@@ -1,10 +1,10 @@
 pub mod Limits
 pub mod Content
 pub mod Rules
-pub mod Plans
 pub mod Faults
 pub mod Entries
 pub mod File
 pub mod Readers
 pub mod Drafts
+pub mod Plans
 pub mod Laws

@@ -1,10 +1,11 @@
 -- A plan by what it holds, and the plan that has read no file. Assumes nothing.
-use Rattle.std.specs.Prelude.{[], ◌∷◌, vec_items}
-use Rattle.plan.specs.Content.{Content, holding}
+use Rattle.std.specs.Prelude.{[], ◌∷◌}
+use Rattle.plan.specs.Content.{Content}
+use Rattle.plan.specs.Drafts.{drafted}
 use Rattle.plan.specs.declared.model.Plan.{Plan}
 
 abbrev pub content : Plan → Content
-content p = holding (vec_items p.tables) (vec_items p.points) (vec_items p.tasks)
+content p = drafted p.draft
 
 -- one table of duration 1 with one task, named ----
 abbrev pub unread : Content

@@ -15,7 +15,7 @@ abbrev pub said : Command → Entry
 said (Table d) = set_table d
 said (Point p) = set_point p
 said (Delay n) = set_delay n
-said (Task name e d l) = set_task name.now e d l
+said (Task name e d l) = set_task name e d l
 said End = ends
 
 abbrev pub bytes : Reader → List ℕ

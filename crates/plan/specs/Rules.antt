@@ -1,8 +1,10 @@
 -- The rules that every plan keeps, its hyperperiod and its work. Assumes nothing.
-use Rattle.std.specs.Prelude.{◌≡◌, ℕ, ◌-◌, ◌*◌, ◌/◌, ◌%◌, ◌<◌, ◌≤◌, Bool, ◌&&◌, ◌||◌, List, length, ◌==◌, nat_le, nat_lt, slice_index, slice_index_or}
+use Rattle.std.specs.Prelude.{◌≡◌, ℕ, ◌-◌, ◌*◌, ◌/◌, ◌%◌, ◌<◌, ◌≤◌, Bool, ◌&&◌, ◌||◌, List, length, Option, ◌==◌, nat_le, nat_lt, slice_index, slice_index_or}
+use Rattle.std.specs.Bool.{then_some}
 use Rattle.plan.specs.Limits.{max_tables, max_duration, max_points, max_tasks_of_point, max_tasks, max_hyperperiod, name_length, first_name_byte, last_name_byte}
 use Rattle.theory.specs.Counting.{in_range, each, total, least}
 use Rattle.plan.specs.declared.records.Table.{Table}
+use Rattle.plan.specs.declared.records.Task.{Task}
 use Rattle.plan.specs.Content.{Content, no_table, table_count, point_count, task_count, duration_of, table_of_point, position_of_point, task_at, table_of, points_of, tasks_of}
 
 -- d divides h; 0 divides nothing here
@@ -20,6 +22,10 @@ least_common tables = least max_hyperperiod (common_to tables)
 abbrev pub hyperperiod_of : Content → ℕ
 hyperperiod_of c = least_common c.tables
 
+-- the hyperperiod where there is one
+abbrev pub hyperperiod_found : Content → Option ℕ
+hyperperiod_found c = then_some (nat_lt 0 (hyperperiod_of c)) (hyperperiod_of c)
+
 -- the same in other words: a common multiple, and no smaller one above 0
 pub record LeastCommonMultiple (c : Content) (h : ℕ) : Type 0 where
   pub some : 0 < h
@@ -27,9 +33,12 @@ pub record LeastCommonMultiple (c : Content) (h : ℕ) : Type 0 where
   pub multiple : (i : ℕ) → i < table_count c → h % duration_of c i ≡ 0
   pub smallest : (m : ℕ) → 0 < m → ((i : ℕ) → i < table_count c → m % duration_of c i ≡ 0) → h ≤ m
 
--- the processor time that all tasks ask for in one hyperperiod
+-- the processor time that a task asks for in one hyperperiod, and that all tasks ask for
+abbrev pub task_work : Content → Task → ℕ
+task_work c t = t.execution * hyperperiod_of c / duration_of c (table_of_point c t.point)
+
 abbrev pub work_of : Content → ℕ
-work_of c = total (task_count c) (λ k. (task_at c k).execution * hyperperiod_of c / duration_of c (table_of c k))
+work_of c = total (task_count c) (λ k. task_work c (task_at c k))
 
 abbrev pub good_name : List ℕ → Bool
 good_name name = length name == name_length && each name_length (λ i. in_range first_name_byte last_name_byte (slice_index name i))

@@ -1,9 +1,7 @@
 // Adding a command to a draft, and making the plan of a finished one.
-ghost use Rattle.std.specs.Prelude.{◌≡◌, true, [], ◌∷◌, ◌++◌, length};
-ghost use Rattle.plan.specs.Content.{holding};
+ghost use Rattle.std.specs.Prelude.{◌≡◌, true};
 ghost use Rattle.plan.specs.Drafts.{drafted, Added, Changed};
-ghost use Rattle.plan.specs.Entries.{with_point, with_task};
-ghost use Rattle.plan.specs.Limits.{name_length};
+ghost use Rattle.plan.specs.Entries.{with_point};
 ghost use Rattle.plan.specs.Plans.{content};
 ghost use Rattle.plan.specs.Rules.{lawful};
 
@@ -13,41 +11,12 @@ use crate::faults::Fault;
 use crate::model::Plan;
 use crate::records::{Point, Table, Task};
 
-fn four(name: &[u8]) -> [u8; 4]
-    requires { length name.now ≡ name_length }
-    ensures { result ≡ name.now }
-{
-    [name[0], name[1], name[2], name[3]]
-}
-
 impl Draft {
     fn add_point(&mut self, position: u16) -> Result<(), Fault>
         ensures { Changed (with_point (drafted self.old) position) result self.new }
     {
         let table = self.tables.len().saturating_sub(1);
         self.points.push(Point { table, position })?;
-        Ok(())
-    }
-
-    fn add_task(
-        &mut self,
-        name: &[u8],
-        execution: u16,
-        deadline: u16,
-        priority: u8,
-    ) -> Result<(), Fault>
-        requires { length name.now ≡ name_length }
-        ensures { Changed (with_task (drafted self.old) name.now execution deadline priority) result self.new }
-    {
-        let point = self.points.len().saturating_sub(1);
-        let name = four(name);
-        self.tasks.push(Task {
-            point,
-            name,
-            execution,
-            deadline,
-            priority,
-        })?;
         Ok(())
     }
 
@@ -73,7 +42,13 @@ impl Draft {
                 execution,
                 deadline,
                 priority,
-            } => self.add_task(name, execution, deadline, priority)?,
+            } => self.tasks.push(Task {
+                point: self.points.len().saturating_sub(1),
+                name,
+                execution,
+                deadline,
+                priority,
+            })?,
             Command::End => {}
         }
         Ok(())
@@ -83,15 +58,6 @@ impl Draft {
         requires { lawful (drafted self) ≡ true }
         ensures { content result ≡ drafted self }
     {
-        let Draft {
-            tables,
-            points,
-            tasks,
-        } = self;
-        Plan {
-            tables,
-            points,
-            tasks,
-        }
+        Plan { draft: self }
     }
 }

@@ -1,6 +1,8 @@
 // The commands of a plan file, each with its operands.
+use crate::limits::NAME_LENGTH;
+
 #[derive(Clone, Copy)]
-pub(crate) enum Command<'a> {
+pub(crate) enum Command {
     Table {
         duration: u16,
     },
@@ -11,9 +13,8 @@ pub(crate) enum Command<'a> {
     Delay {
         ticks: u16,
     },
-    // The name is that part of the file.
     Task {
-        name: &'a [u8],
+        name: [u8; NAME_LENGTH],
         execution: u16,
         deadline: u16,
         priority: u8,
@@ -23,7 +24,7 @@ pub(crate) enum Command<'a> {
 
 // A command and the place of its first byte.
 #[derive(Clone, Copy)]
-pub(crate) struct Placed<'a> {
-    pub(crate) command: Command<'a>,
+pub(crate) struct Placed {
+    pub(crate) command: Command,
     pub(crate) place: usize,
 }

@@ -1,42 +1,16 @@
 // A plan that is being set down, command by command.
-ghost use Rattle.std.specs.Prelude.{◌≡◌, length, nat_eq, slice_index_or};
-ghost use Rattle.plan.specs.Content.{no_point, no_task};
-ghost use Rattle.theory.specs.Counting.{count};
+ghost use Rattle.std.specs.Prelude.{◌≡◌, IfOk};
 ghost use Rattle.plan.specs.Drafts.{drafted};
 ghost use Rattle.plan.specs.Entries.{blank, duration_here, points_here, position_here, tasks_here, position_after};
 
 use crate::records::{Point, Table, Task};
-use std::alloc::Global;
+use std::alloc::{AllocError, Global};
 
 #[derive(Drop)]
 pub(crate) struct Draft {
     pub(crate) tables: Vec<Table>,
     pub(crate) points: Vec<Point>,
     pub(crate) tasks: Vec<Task>,
-}
-
-fn points_of(points: &[Point], table: usize) -> usize
-    ensures { result ≡ count (length points.now) (λ j. nat_eq (slice_index_or points.now j no_point).table table) }
-{
-    let mut found = 0;
-    for p in points {
-        if p.table == table {
-            found += 1;
-        }
-    }
-    found
-}
-
-fn tasks_of(tasks: &[Task], point: usize) -> usize
-    ensures { result ≡ count (length tasks.now) (λ k. nat_eq (slice_index_or tasks.now k no_task).point point) }
-{
-    let mut found = 0;
-    for t in tasks {
-        if t.point == point {
-            found += 1;
-        }
-    }
-    found
 }
 
 impl Draft {
@@ -50,48 +24,57 @@ impl Draft {
         }
     }
 
+    // Another draft that holds the same. Not `Clone`, which takes the heap of the original: this one is handed its heap, as the copy of a plan is.
+    pub(crate) fn copy(&self, heap: Global) -> Result<Draft, AllocError>
+        ensures { IfOk result (λ d. drafted d ≡ drafted self.now) }
+    {
+        let tables = Vec::from_slice(heap, self.tables.as_slice())?;
+        let points = Vec::from_slice(heap, self.points.as_slice())?;
+        let tasks = Vec::from_slice(heap, self.tasks.as_slice())?;
+        Ok(Draft {
+            tables,
+            points,
+            tasks,
+        })
+    }
+
     // How many points the last table has.
     pub(crate) fn points_here(&self) -> usize
         ensures { result ≡ points_here (drafted self.now) }
     {
-        points_of(self.points.as_slice(), self.tables.len().saturating_sub(1))
+        let table = self.tables.len().saturating_sub(1);
+        self.points.iter().filter(|p| p.table == table).count()
     }
 
-    // How many tasks the last point has.
+    // How many tasks the last point has. A chain of its own: a generic count would take the field as a closure.
     pub(crate) fn tasks_here(&self) -> usize
         ensures { result ≡ tasks_here (drafted self.now) }
     {
-        tasks_of(self.tasks.as_slice(), self.points.len().saturating_sub(1))
+        let point = self.points.len().saturating_sub(1);
+        self.tasks.iter().filter(|t| t.point == point).count()
     }
 
     // The duration of the last table, 0 before the first.
     pub(crate) fn duration_here(&self) -> u16
         ensures { result ≡ duration_here (drafted self.now) }
     {
-        match self.tables.as_slice().last() {
-            Some(t) => t.duration,
-            None => 0,
-        }
+        self.tables.last().map_or(0, |t| t.duration)
     }
 
     // The position of the last point, 0 before the first.
     pub(crate) fn position_here(&self) -> u16
         ensures { result ≡ position_here (drafted self.now) }
     {
-        match self.points.as_slice().last() {
-            Some(p) => p.position,
-            None => 0,
-        }
+        self.points.last().map_or(0, |p| p.position)
     }
 
     // The position so many ticks after the last point, if it lies within the table.
     pub(crate) fn position_after(&self, ticks: u16) -> Option<u16>
         ensures { result ≡ position_after (drafted self.now) ticks }
     {
-        let position = u32::from(self.position_here()) + u32::from(ticks);
-        if position >= u32::from(self.duration_here()) {
-            return None;
-        }
-        Some(position as u16)
+        let duration = self.duration_here();
+        self.position_here()
+            .checked_add(ticks)
+            .filter(|position| *position < duration)
     }
 }

@@ -1,22 +1,24 @@
 // What can be wrong with a plan file, layer by layer: its bytes, a command, the plan it sets down.
-ghost use Rattle.std.specs.Prelude.{◌≡◌};
-ghost use Rattle.plan.specs.Faults.{number_of, garbled, raised};
+ghost use Rattle.std.specs.Prelude.{◌≡◌, Some};
+ghost use Rattle.plan.specs.Faults.{number_of, garbled, raised, fault_text};
 ghost use Rattle.plan.specs.declared.faults.Fault.TheVariants.{Memory};
 
 use std::alloc::{AllocError, AllocFailed};
+use std::error::Error;
+use std::fmt;
 
-// A rule of the plan file that a command breaks, in the order in which they are tested.
-#[derive(Clone, Copy)]
+// A rule of the plan file that a command breaks, with its number, in the order in which they are tested.
+#[derive(Clone, Copy, Debug, PartialEq, Eq)]
 pub enum Row {
-    NotCommand,
-    EndsEarly,
-    TooSoon,
-    Unfinished,
-    TooMany,
-    OutOfRange,
-    NotRising,
-    Hyperperiod,
-    AfterEnd,
+    NotCommand = 12,
+    EndsEarly = 11,
+    TooSoon = 14,
+    Unfinished = 18,
+    TooMany = 17,
+    OutOfRange = 15,
+    NotRising = 16,
+    Hyperperiod = 19,
+    AfterEnd = 13,
 }
 
 impl Row {
@@ -24,17 +26,7 @@ impl Row {
     pub fn number(self) -> u8
         ensures { result ≡ number_of self }
     {
-        match self {
-            Row::NotCommand => 12,
-            Row::EndsEarly => 11,
-            Row::TooSoon => 14,
-            Row::Unfinished => 18,
-            Row::TooMany => 17,
-            Row::OutOfRange => 15,
-            Row::NotRising => 16,
-            Row::Hyperperiod => 19,
-            Row::AfterEnd => 13,
-        }
+        self as u8
     }
 }
 
@@ -52,7 +44,7 @@ pub(crate) enum Garbled {
 }
 
 // Why a file was not read: a broken rule, with the byte that it names, or want of memory.
-#[derive(Clone, Copy)]
+#[derive(Clone, Copy, Debug, PartialEq, Eq)]
 pub enum Fault {
     At { row: Row, byte: usize },
     Memory,
@@ -98,3 +90,16 @@ impl<T: Drop> From<AllocFailed<T>> for Fault {
         Fault::Memory
     }
 }
+
+impl fmt::Display for Fault {
+    ghost output = { λ e. Some (fault_text e) };
+
+    fn fmt<W: fmt::Write>(&self, f: &mut fmt::Formatter<W>) -> fmt::Result {
+        match self {
+            Fault::At { row, byte } => write!(f, "FAULT {} {byte}", row.number()),
+            Fault::Memory => f.write_str("no memory for the plan"),
+        }
+    }
+}
+
+impl Error for Fault {}

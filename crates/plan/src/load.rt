@@ -1,12 +1,13 @@
 // The hyperperiod of a plan, and the work that its tasks ask for in one hyperperiod.
-ghost use Rattle.std.specs.Prelude.{◌≡◌, true};
-ghost use Rattle.plan.specs.Content.{holding};
+ghost use Rattle.std.specs.Prelude.{◌≡◌, Contains};
+ghost use Rattle.plan.specs.Drafts.{drafted};
 ghost use Rattle.plan.specs.Plans.{content};
-ghost use Rattle.plan.specs.Rules.{divides, common_to, least_common, hyperperiod_of, lawful, work_of, LeastCommonMultiple};
+ghost use Rattle.plan.specs.Rules.{divides, common_to, hyperperiod_found, hyperperiod_of, task_work, work_of, LeastCommonMultiple};
 
+use crate::drafts::Draft;
 use crate::limits::MAX_HYPERPERIOD;
 use crate::model::Plan;
-use crate::records::{Point, Table, Task};
+use crate::records::Task;
 
 fn is_divisor(d: u32, h: u32) -> bool
     ensures { result ≡ divides d h }
@@ -14,43 +15,22 @@ fn is_divisor(d: u32, h: u32) -> bool
     d != 0 && h % d == 0
 }
 
-// Whether h is a multiple of every table's duration.
-fn is_common(tables: &[Table], h: u32) -> bool
-    ensures { result ≡ common_to tables.now h }
-{
-    for t in tables {
-        if !is_divisor(u32::from(t.duration), h) {
-            return false;
-        }
+impl Draft {
+    // Whether h is a multiple of every table's duration.
+    fn is_common(&self, h: u32) -> bool
+        ensures { result ≡ common_to (drafted self.now).tables h }
+    {
+        self.tables
+            .iter()
+            .all(|t| is_divisor(u32::from(t.duration), h))
     }
-    true
-}
 
-// The least common multiple of the durations, 0 where it is above the limit.
-pub(crate) fn least_common(tables: &[Table]) -> u32
-    ensures { result ≡ least_common tables.now }
-{
-    for h in 1..=MAX_HYPERPERIOD {
-        if is_common(tables, h) {
-            return h;
-        }
+    // The least common multiple of the durations, none where it is above the limit.
+    pub(crate) fn hyperperiod(&self) -> Option<u32>
+        ensures { result ≡ hyperperiod_found (drafted self.now) }
+    {
+        (1..=MAX_HYPERPERIOD).find(|h| self.is_common(*h))
     }
-    0
-}
-
-// The sum over all tasks of execution time × hyperperiod ÷ duration.
-fn total_work(tables: &[Table], points: &[Point], tasks: &[Task], hyperperiod: u32) -> u32
-    requires kept { lawful (holding tables.now points.now tasks.now) ≡ true }
-    requires multiple { hyperperiod ≡ least_common tables.now }
-    ensures { result ≡ work_of (holding tables.now points.now tasks.now) }
-{
-    let mut work = 0;
-    for task in tasks {
-        let table = points[task.point].table;
-        let duration = u32::from(tables[table].duration);
-        work += u32::from(task.execution) * hyperperiod / duration;
-    }
-    work
 }
 
 impl Plan {
@@ -59,7 +39,18 @@ impl Plan {
         ensures defined { result ≡ hyperperiod_of (content self.now) }
         ensures law { LeastCommonMultiple (content self.now) result }
     {
-        least_common(self.tables.as_slice())
+        self.draft.hyperperiod().unwrap()
+    }
+
+    // The processor time that a task asks for in one hyperperiod, which is passed in: it is sought once for all tasks.
+    fn task_work(&self, task: &Task, hyperperiod: u32) -> u32
+        requires held { Contains (content self.now).tasks task.now }
+        requires multiple { hyperperiod ≡ hyperperiod_of (content self.now) }
+        ensures { result ≡ task_work (content self.now) task.now }
+    {
+        let table = self.points()[task.point].table;
+        let duration = u32::from(self.tables()[table].duration);
+        u32::from(task.execution) * hyperperiod / duration
     }
 
     // The processor time that all tasks ask for in one hyperperiod.
@@ -67,11 +58,9 @@ impl Plan {
         ensures { result ≡ work_of (content self.now) }
     {
         let hyperperiod = self.hyperperiod();
-        total_work(
-            self.tables.as_slice(),
-            self.points.as_slice(),
-            self.tasks.as_slice(),
-            hyperperiod,
-        )
+        self.tasks()
+            .iter()
+            .map(|task| self.task_work(task, hyperperiod))
+            .sum()
     }
 }

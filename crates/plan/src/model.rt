@@ -1,15 +1,13 @@
 // The plan itself, alone in its file, so that the definitions above it can name it.
 ghost use Rattle.std.specs.Prelude.{◌≡◌, true};
-ghost use Rattle.plan.specs.Content.{holding};
+ghost use Rattle.plan.specs.Drafts.{drafted};
 ghost use Rattle.plan.specs.Rules.{lawful};
 
-use crate::records::{Point, Table, Task};
+use crate::drafts::Draft;
 
-// Every plan that exists keeps the rules: no code above has to test them again.
+// A draft that keeps the rules. Every plan that exists keeps them: no code above has to test them again.
 #[derive(Drop)]
 pub struct Plan {
-    pub(crate) tables: Vec<Table>,
-    pub(crate) points: Vec<Point>,
-    pub(crate) tasks: Vec<Task>,
-    ghost kept: { lawful (holding tables.items points.items tasks.items) ≡ true },
+    pub(crate) draft: Draft,
+    ghost kept: { lawful (drafted draft) ≡ true },
 }

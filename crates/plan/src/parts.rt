@@ -1,8 +1,8 @@
 // Making a plan, and looking at what it holds.
 ghost use Rattle.std.specs.Prelude.{◌≡◌, IfOk};
-ghost use Rattle.plan.specs.Content.{Content};
 ghost use Rattle.plan.specs.Plans.{content, unread};
 
+use crate::drafts::Draft;
 use crate::model::Plan;
 use crate::records::{Point, Table, Task};
 use std::alloc::{AllocError, Global};
@@ -27,45 +27,40 @@ impl Plan {
         let tables = Vec::from_slice(heap, &[table])?;
         let points = Vec::from_slice(heap, &[point])?;
         let tasks = Vec::from_slice(heap, &[task])?;
-        Ok(Plan {
+        let draft = Draft {
             tables,
             points,
             tasks,
-        })
+        };
+        Ok(Plan { draft })
     }
 
-    // Another plan that holds the same.
+    // Another plan that holds the same. Not `Clone`, which takes the heap of the original: this one is handed its heap.
     pub fn copy(&self, heap: Global) -> Result<Plan, AllocError>
         ensures { IfOk result (λ p. content p ≡ content self.now) }
     {
-        let tables = Vec::from_slice(heap, self.tables.as_slice())?;
-        let points = Vec::from_slice(heap, self.points.as_slice())?;
-        let tasks = Vec::from_slice(heap, self.tasks.as_slice())?;
-        Ok(Plan {
-            tables,
-            points,
-            tasks,
-        })
+        let draft = self.draft.copy(heap)?;
+        Ok(Plan { draft })
     }
 
     // The tables in file order: a table's number is its index.
     pub fn tables(&self) -> &[Table]
         ensures { result.now ≡ (content self.now).tables }
     {
-        self.tables.as_slice()
+        self.draft.tables.as_slice()
     }
 
     // The expiry points of all tables in file order.
     pub fn points(&self) -> &[Point]
         ensures { result.now ≡ (content self.now).points }
     {
-        self.points.as_slice()
+        self.draft.points.as_slice()
     }
 
     // The tasks of all points in file order: a task's number is its index.
     pub fn tasks(&self) -> &[Task]
         ensures { result.now ≡ (content self.now).tasks }
     {
-        self.tasks.as_slice()
+        self.draft.tasks.as_slice()
     }
 }

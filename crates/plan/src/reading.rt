@@ -14,7 +14,7 @@ use crate::reader::Reader;
 use std::alloc::Global;
 
 impl Draft {
-    // Takes the next command; false at the end of the file.
+    // Takes the next command; false at the end of the file. No value stands beside it, so it is a bool.
     fn take_command(&mut self, reader: &mut Reader) -> Result<bool, Fault>
         ensures { Stepped (drafted self.old) reader.old result self.new reader.new }
     {

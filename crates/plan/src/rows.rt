@@ -12,20 +12,12 @@ use crate::limits::{
     FIRST_NAME_BYTE, LAST_NAME_BYTE, MAX_DURATION, MAX_POINTS, MAX_TABLES, MAX_TASKS,
     MAX_TASKS_OF_POINT, NAME_LENGTH,
 };
-use crate::load::least_common;
 
-fn is_name(name: &[u8]) -> bool
+fn is_name(name: &[u8; NAME_LENGTH]) -> bool
     ensures { result ≡ good_name name.now }
 {
-    if name.len() != NAME_LENGTH {
-        return false;
-    }
-    for b in name {
-        if *b < FIRST_NAME_BYTE || *b > LAST_NAME_BYTE {
-            return false;
-        }
-    }
-    true
+    name.iter()
+        .all(|b| (FIRST_NAME_BYTE..=LAST_NAME_BYTE).contains(b))
 }
 
 impl Draft {
@@ -94,7 +86,7 @@ impl Draft {
         ensures { result ≡ over_hyperperiod (drafted self.now) (said command.now) }
     {
         match command {
-            Command::End => least_common(self.tables.as_slice()) == 0,
+            Command::End => self.hyperperiod().is_none(),
             _ => false,
         }
     }
@@ -103,7 +95,7 @@ impl Draft {
         ensures { result ≡ out_of_range (drafted self.now) (said command.now) }
     {
         match command {
-            Command::Table { duration } => *duration < 1 || *duration > MAX_DURATION,
+            Command::Table { duration } => !(1..=MAX_DURATION).contains(duration),
             Command::Point { position } => *position >= self.duration_here(),
             Command::Delay { ticks } => *ticks == 0 || self.position_after(*ticks).is_none(),
             Command::Task {
@@ -125,24 +117,14 @@ impl Draft {
     pub(crate) fn broken(&self, command: &Command) -> Option<Row>
         ensures { result ≡ first_row (plan_rows (drafted self.now) (said command.now)) }
     {
-        if self.too_soon(command) {
-            return Some(Row::TooSoon);
-        }
-        if self.unfinished(command) {
-            return Some(Row::Unfinished);
-        }
-        if self.too_many(command) {
-            return Some(Row::TooMany);
-        }
-        if self.out_of_range(command) {
-            return Some(Row::OutOfRange);
-        }
-        if self.not_rising(command) {
-            return Some(Row::NotRising);
-        }
-        if self.over_hyperperiod(command) {
-            return Some(Row::Hyperperiod);
-        }
-        None
+        let rows = [
+            (self.too_soon(command), Row::TooSoon),
+            (self.unfinished(command), Row::Unfinished),
+            (self.too_many(command), Row::TooMany),
+            (self.out_of_range(command), Row::OutOfRange),
+            (self.not_rising(command), Row::NotRising),
+            (self.over_hyperperiod(command), Row::Hyperperiod),
+        ];
+        rows.iter().find(|(breaks, _)| *breaks).map(|(_, row)| *row)
     }
 }

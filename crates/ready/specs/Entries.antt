@@ -1,18 +1,17 @@
 -- A sound list of jobs: what it holds, and what a put and a serve make of it. Assumes nothing.
-use Rattle.std.specs.Prelude.{◌≡◌, ℕ, ◌+◌, ◌<◌, Bool, true, false, cond, List, [], ◌∷◌, ◌++◌, length, take, is_some, Some, None, Option, ◌==◌, nat_eq, nat_lt, slice_index_or, slice_set, refl}
+use Rattle.std.specs.Prelude.{◌≡◌, ℕ, Bool, true, false, cond, List, [], ◌∷◌, ◌++◌, is_some, Some, None, Option, ◌==◌, nat_eq, nat_lt, slice_set, refl}
 use Rattle.std.proofs.Common.{sym, ap, ◌∙◌, subst, inl, inr, ⊎_elim, arith}
 use Rattle.std.specs.List.{remove}
 use Rattle.std.specs.Option.{option_to_list}
 use Rattle.std.specs.Map.{update}
-use Rattle.std.proofs.lemmas.List.{take_more}
 use Rattle.std.proofs.lemmas.Bool.{both_ways, cases_Bool, cond-true, cond-false, eq-eqb}
 use Rattle.std.proofs.lemmas.Bool.Decides.{nat_tests}
 use Rattle.ready.specs.Jobs.{task_limit, fit, ahead, remaining}
 use Rattle.ready.specs.Calls.{placed, FrontBy}
-use Rattle.ready.specs.Fronts.{front_of, front_with}
+use Rattle.ready.specs.Fronts.{front_of}
 use Rattle.ready.specs.Arrivals.{job_of, sound, PlaceOf, replaced}
 use Rattle.ready.specs.declared.job.Job.{Job}
-use Rattle.ready.specs.Leads.{In, front_by, front_more}
+use Rattle.ready.specs.Leads.{In, front_by}
 use Rattle.ready.specs.Places.{place_held, place_settled}
 use Rattle.ready.specs.Ranks.{ahead_ranks}
 
@@ -89,11 +88,6 @@ replaced_sound (x ∷ xs) u given s held p =
     (λ h. ap sound (cond-false (u == x.task) (option_to_list given ++ xs) (x ∷ replaced xs u given) h)
     ∙ grind (arith, nat_tests, h, replaced_sound xs u given (sound_rest x xs s) (past_head x xs u held h) p, replaced_jobs xs u given (sound_rest x xs s) (past_head x xs u held h) p x.task))
     (cases_Bool (u == x.task))
-
--- ---- a loop over the list
-pub arrival_more : (xs : List Job) (k : ℕ) (j : Job) → k < length xs → j ≡ slice_index_or xs k j → front_with ahead (front_of ahead (take k xs)) (Some j) ≡ front_of ahead (take (k + 1) xs)
-arrival_more xs k j within read =
-    sym (ap (front_of ahead) (take_more xs k j within ∙ ap (λ y. take k xs ++ y ∷ []) (sym read)) ∙ front_more ahead ahead_ranks (take k xs) (Some j))
 
 -- ---- a change of the whole list
 pub record Appended (xs : List Job) (j : Job) (after : List Job) : Type 0 where

@@ -1,5 +1,5 @@
 -- The place of a task's job in a list: whether there is one, and the list with another job there. Assumes nothing.
-use Rattle.std.specs.Prelude.{◌≡◌, ℕ, zero, suc, ◌<◌, Bool, true, false, cond, List, [], ◌∷◌, length, is_some, Some, None, ◌==◌, ◌≢◌, slice_index_or, slice_set, refl}
+use Rattle.std.specs.Prelude.{◌≡◌, ℕ, zero, suc, ◌<◌, Bool, true, false, cond, List, [], ◌∷◌, length, is_some, Some, None, Option, IfSome, ◌==◌, ◌≢◌, slice_index_or, slice_set, refl}
 use Rattle.std.proofs.Common.{sym, ap, ◌∙◌, arith}
 use Rattle.std.specs.List.{remove}
 use Rattle.std.proofs.lemmas.Bool.{eq-eqb, ne_eqb, cond-true, cond-false}
@@ -28,6 +28,11 @@ none_held [] t h = refl
 none_held (x ∷ xs) t h =
     ap is_some (cond-false (t == x.task) (Some x) (job_of xs t) (ne_eqb t x.task (λ e. h 0 (omega arith) (sym e))))
     ∙ none_held xs t (λ m l e. h (suc m) (omega arith) e)
+
+-- whether a place is known is whether a job is held, if what is known is right
+pub known_held : (xs : List Job) (t : ℕ) (o : Option ℕ) → IfSome o (PlaceOf xs t) → (o ≡ None → (m : ℕ) → m < length xs → (slice_index_or xs m blank).task ≢ t) → is_some o ≡ is_some (job_of xs t)
+known_held xs t None f n = sym (none_held xs t (n refl))
+known_held xs t (Some k) f n = sym (place_held xs t k f)
 
 place_set : (xs : List Job) (t k : ℕ) (j : Job) → PlaceOf xs t k → replaced xs t (Some j) ≡ slice_set xs k j
 place_set [] t k j p = refl

@@ -1,19 +1,18 @@
 -- The slots of the examiner's queue: a slot that is filled, and the front of them all. Assumes nothing.
-use Rattle.std.specs.Prelude.{◌≡◌, ℕ, zero, suc, ◌+◌, ◌<◌, true, List, [], ◌∷◌, ◌++◌, length, take, replicate, Some, None, Option, nat_eq, slice_index_or, slice_set, refl}
+use Rattle.std.specs.Prelude.{◌≡◌, ℕ, zero, suc, ◌<◌, true, List, [], ◌∷◌, length, replicate, Some, None, Option, nat_eq, slice_set, refl}
 use Rattle.std.proofs.Common.{sym, ap, ◌∙◌, subst, inl, inr, ⊎_elim, arith}
 use Rattle.std.specs.Option.{option_to_list}
 use Rattle.std.specs.List.{flat_map}
 use Rattle.std.specs.Map.{update}
-use Rattle.std.proofs.lemmas.List.{get_or-set_same, get_or-set_other, take_more, flat_map_more}
+use Rattle.std.proofs.lemmas.List.{get_or-set_same, get_or-set_other}
 use Rattle.std.proofs.lemmas.Map.{update_here, update_apart}
 use Rattle.std.proofs.lemmas.Bool.{cases_eq, or_parts}
 use Rattle.ready.specs.Jobs.{ahead}
 use Rattle.ready.specs.Calls.{Jobs, placed, FrontBy}
-use Rattle.ready.specs.Fronts.{front_of, front_with}
 use Rattle.ready.specs.Examiners.{slot_of, goes_before, examiners_front}
 use Rattle.ready.specs.declared.job.Job.{Job}
 use Rattle.ready.specs.Laws.{job_at}
-use Rattle.ready.specs.Leads.{In, in_left, in_right, front_by, front_more}
+use Rattle.ready.specs.Leads.{In, in_left, in_right, front_by}
 use Rattle.ready.specs.Ranks.{before_ranks}
 
 abbrev Each : List (Option Job) → Type 0
@@ -66,10 +65,3 @@ examiner_front watch slots each =
 pub front_ahead : (watch : ℕ) (js : Jobs) (o : Option Job) → FrontBy (goes_before watch) js o → FrontBy ahead js o
 front_ahead watch js None f = f
 front_ahead watch js (Some j) f = (f.0, λ t i e. (or_parts (ahead i j) _ (f.1 t i e)).0)
-
--- ---- one slot more
-pub examiner_more : (watch : ℕ) (slots : List (Option Job)) (k : ℕ) (o : Option Job) → k < length slots → o ≡ slice_index_or slots k o → front_with (goes_before watch) (examiners_front watch (take k slots)) o ≡ examiners_front watch (take (k + 1) slots)
-examiner_more watch slots k o within read =
-    sym (ap (examiners_front watch) (take_more slots k o within ∙ ap (λ p. take k slots ++ p ∷ []) (sym read))
-    ∙ ap (front_of (goes_before watch)) (sym (flat_map_more option_to_list [] (take k slots) o))
-    ∙ front_more (goes_before watch) (before_ranks watch) (flat_map option_to_list (take k slots)) o)

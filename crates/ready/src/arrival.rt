@@ -9,7 +9,7 @@ ghost use Rattle.ready.specs.Arrivals.{job_of, sound, PlaceOf, replaced, arrival
 ghost use Rattle.ready.specs.Entries.{entry_placed, arrival_front};
 
 use crate::job::{Job, MAX_TASKS};
-use crate::lead::front_with;
+use crate::lead::{StandingAhead, front_among};
 use crate::queue::ReadyQueue;
 use crate::refusal::PutRefusal;
 use std::alloc::{AllocError, Global};
@@ -22,28 +22,12 @@ pub struct ArrivalList {
     ghost room: { task_limit ≤ vec_capacity list },
 }
 
-// The front of the jobs in the list.
-fn front_of(list: &[Job]) -> Option<Job>
-    ensures { result ≡ front_of ahead list.now }
-{
-    let mut front: Option<Job> = None;
-    for job in list {
-        front = front_with(front, Some(*job));
-    }
-    front
-}
-
 // The place of the job of a task, if there is one.
 fn place_of(list: &[Job], task: usize) -> Option<usize>
     ensures found { IfSome result (PlaceOf list.now task) }
     ensures held { is_some result ≡ is_some (job_of list.now task) }
 {
-    for (i, job) in list.iter().enumerate() {
-        if job.task == task {
-            return Some(i);
-        }
-    }
-    None
+    list.iter().position(|job| job.task == task)
 }
 
 // Makes the job what stands at that place, or takes that out if the job has no tick left.
@@ -52,10 +36,11 @@ fn settle_at(list: &mut Vec<Job>, place: usize, job: Job)
     ensures items { list.new.items ≡ (if nat_lt 0 job.left then slice_set list.old.items place job else remove list.old.items place) }
     ensures capacity { vec_capacity list.new ≡ vec_capacity list.old }
 {
-    if job.left > 0 {
-        list[place] = job;
-    } else {
-        let _ = list.remove(place);
+    match job.remaining() {
+        Some(job) => list[place] = job,
+        None => {
+            let _ = list.remove(place);
+        }
     }
 }
 
@@ -84,10 +69,9 @@ impl ArrivalList {
         ensures list { self.new.list.items ≡ replaced self.old.list.items job.task (remaining job) }
         ensures change { (t : ℕ) → job_of self.new.list.items t ≡ update nat_eq (job_of self.old.list.items) job.task (remaining job) t }
     {
-        let Some(place) = place_of(self.list.as_slice(), job.task) else {
-            return;
-        };
-        settle_at(&mut self.list, place, job);
+        if let Some(place) = place_of(&self.list, job.task) {
+            settle_at(&mut self.list, place, job);
+        }
     }
 }
 
@@ -97,22 +81,15 @@ impl ReadyQueue for ArrivalList {
     // The first in put order of the jobs that no other stands ahead of.
     ghost top = { λ q. front_of ahead q.list.items };
 
-    ghost whole = { λ _. Unit {0} };
-
     // Which job stands where in the order of the puts.
     ghost own = { λ q change after. after.list.items ≡ arrivals_after q.list.items change };
 
-    ghost stands = { λ q w. entry_placed q.list.items q.apart };
+    ghost stands = { λ q. entry_placed q.list.items q.apart };
 
-    ghost fronts = { λ q w. arrival_front q.list.items q.apart };
+    ghost fronts = { λ q. arrival_front q.list.items q.apart };
 
     fn put(&mut self, job: Job) -> Result<(), PutRefusal> {
-        if !job.is_fit() {
-            return Err(PutRefusal::BadJob);
-        }
-        if self.holds(job.task) {
-            return Err(PutRefusal::Held);
-        }
+        job.admit(self.holds(job.task))?;
         self.append(job);
         Ok(())
     }
@@ -121,20 +98,18 @@ impl ReadyQueue for ArrivalList {
         ensures value { result ≡ front_of ahead self.now.list.items }
         ensures rule { FrontBy ahead (job_of self.now.list.items) result }
     {
-        front_of(self.list.as_slice())
+        front_among(&StandingAhead, &self.list)
     }
 
     fn serve(&mut self) -> Option<Job> {
-        let Some(front) = self.front() else {
-            return None;
-        };
+        let front = self.front()?;
         let job = front.after_tick();
         self.settle(job);
         Some(job)
     }
 
     fn holds(&self, task: usize) -> bool {
-        place_of(self.list.as_slice(), task).is_some()
+        place_of(&self.list, task).is_some()
     }
 
     fn clear(&mut self) {

@@ -3,19 +3,21 @@ ghost use Rattle.std.specs.Prelude.{◌≡◌, ℕ, ◌<◌, true, length, None,
 ghost use Rattle.std.specs.Map.{update};
 ghost use Rattle.ready.specs.Jobs.{task_limit};
 ghost use Rattle.ready.specs.Calls.{placed, FrontBy};
-ghost use Rattle.ready.specs.Fronts.{front_with};
 ghost use Rattle.ready.specs.Examiners.{slot_of, turn, goes_before, examiners_front};
+ghost use Rattle.ready.specs.Ranks.{before_ranks};
 ghost use Rattle.ready.specs.Slots.{examiner_front, front_ahead};
 
 use crate::job::{Job, MAX_TASKS};
+use crate::lead::{Precedence, front_among};
 use crate::queue::ReadyQueue;
 use crate::refusal::PutRefusal;
 
 // Of tied jobs the lowest task number goes first, but the watched task goes last.
 #[derive(Drop)]
 pub struct ExaminerQueue {
+    // Any number may be watched: one that no task has watches nobody, so nothing is refused and there is no case of none.
     watch: usize,
-    // Each task's job, by task number.
+    // Each task's job, by task number. An array, so that `new` cannot want for memory.
     slots: [Option<Job>; MAX_TASKS],
     ghost full: { length slots ≡ task_limit },
     ghost each: { (t : ℕ) → placed t (slot_of slots t) ≡ true },
@@ -50,31 +52,6 @@ impl ExaminerQueue {
         }
     }
 
-    fn goes_before(&self, a: Job, b: Job) -> bool
-        ensures { result ≡ goes_before self.now.watch a b }
-    {
-        if a.stands_ahead(b) {
-            return true;
-        }
-        if b.stands_ahead(a) {
-            return false;
-        }
-        self.turn_of(a) < self.turn_of(b)
-    }
-
-    // The front once one more slot is seen.
-    fn front_with(&self, front: Option<Job>, next: Option<Job>) -> Option<Job>
-        ensures { result ≡ front_with (goes_before self.now.watch) front next }
-    {
-        let Some(best) = front else {
-            return next;
-        };
-        match next {
-            Some(job) if self.goes_before(job, best) => next,
-            _ => front,
-        }
-    }
-
     // Puts what is given into the slot of that task.
     fn fill(&mut self, task: usize, given: Option<Job>)
         requires place { task < task_limit }
@@ -86,28 +63,32 @@ impl ExaminerQueue {
     }
 }
 
+// The examiner's rule: standing ahead, and among tied jobs the earlier turn. By standing ahead itself, which is said once.
+impl Precedence for ExaminerQueue {
+    ghost before = { λ q. goes_before q.watch };
+
+    ghost ranks = { λ q. before_ranks q.watch };
+
+    fn goes_before(&self, a: Job, b: Job) -> bool {
+        a.stands_ahead(b) || (!b.stands_ahead(a) && self.turn_of(a) < self.turn_of(b))
+    }
+}
+
 impl ReadyQueue for ExaminerQueue {
     ghost jobs = { λ q. slot_of q.slots };
 
     // The job that goes first by the examiner's rule.
     ghost top = { λ q. examiners_front q.watch q.slots };
 
-    ghost whole = { λ _. Unit {0} };
-
     // No change touches the watch number.
     ghost own = { λ q _ after. after.watch ≡ q.watch };
 
-    ghost stands = { λ q w. q.each };
+    ghost stands = { λ q. q.each };
 
-    ghost fronts = { λ q w. front_ahead q.watch (slot_of q.slots) (examiners_front q.watch q.slots) (examiner_front q.watch q.slots q.each) };
+    ghost fronts = { λ q. front_ahead q.watch (slot_of q.slots) (examiners_front q.watch q.slots) (examiner_front q.watch q.slots q.each) };
 
     fn put(&mut self, job: Job) -> Result<(), PutRefusal> {
-        if !job.is_fit() {
-            return Err(PutRefusal::BadJob);
-        }
-        if self.holds(job.task) {
-            return Err(PutRefusal::Held);
-        }
+        job.admit(self.holds(job.task))?;
         self.fill(job.task, Some(job));
         Ok(())
     }
@@ -116,23 +97,12 @@ impl ReadyQueue for ExaminerQueue {
         ensures value { result ≡ examiners_front self.now.watch self.now.slots }
         ensures rule { FrontBy (goes_before self.now.watch) (slot_of self.now.slots) result }
     {
-        let mut best: Option<Job> = None;
-        for slot in &self.slots {
-            best = self.front_with(best, *slot);
-        }
-        best
+        front_among(self, &self.slots)
     }
 
     fn serve(&mut self) -> Option<Job> {
-        let Some(front) = self.front() else {
-            return None;
-        };
-        let job = front.after_tick();
-        if job.left > 0 {
-            self.fill(job.task, Some(job));
-        } else {
-            self.fill(job.task, None);
-        }
+        let job = self.front()?.after_tick();
+        self.fill(job.task, job.remaining());
         Some(job)
     }
 

@@ -16,10 +16,7 @@ use ready::refusal::PutRefusal;
 fn number(answer: Result<(), PutRefusal>) -> u8
     ensures { result ≡ unwrap_or (told answer) 0 }
 {
-    match answer {
-        Ok(()) => 0,
-        Err(refusal) => refusal.number(),
-    }
+    answer.err().map_or(0, PutRefusal::number)
 }
 
 fn puts<Q: ReadyQueue>(rt: &HostRuntime, queue: &mut Q) -> anyhow::Result<()> {
@@ -56,8 +53,7 @@ fn puts<Q: ReadyQueue>(rt: &HostRuntime, queue: &mut Q) -> anyhow::Result<()> {
         },
     ];
     for job in jobs {
-        let answer = number(queue.put(job));
-        print!(rt; "{answer} ")?;
+        print!(rt; "{} ", number(queue.put(job)))?;
     }
     println!(rt; "")?;
     Ok(())
@@ -66,11 +62,7 @@ fn puts<Q: ReadyQueue>(rt: &HostRuntime, queue: &mut Q) -> anyhow::Result<()> {
 fn serves<Q: ReadyQueue>(rt: &HostRuntime, queue: &mut Q) -> anyhow::Result<()> {
     for _ in 0..4u8 {
         match queue.serve() {
-            Some(job) => {
-                let task = job.task;
-                let left = job.left;
-                println!(rt; "task {task}, {left} left")?;
-            }
+            Some(job) => println!(rt; "task {}, {} left", job.task, job.left)?,
             None => println!(rt; "none")?,
         }
     }

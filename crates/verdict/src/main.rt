@@ -1,7 +1,6 @@
 // Reads a plan file from standard input and prints what becomes of it, in lines.
 #![tactic(auto)]
 
-use anyhow::anyhow;
 use plan::{Fault, Plan};
 use std::io::Read;
 
@@ -13,19 +12,18 @@ fn run(rt: &HostRuntime) -> anyhow::Result<()> {
     let mut file = Vec::new(heap);
     let _ = rt.stdin().take(FILE_LIMIT).read_to_end(&mut file)?;
     let mut plan = Plan::new(heap)?;
-    match plan.read(heap, file.as_slice()) {
+    match plan.read(heap, &file) {
         Ok(()) => {
             let tables = plan.tables().len();
             let tasks = plan.tasks().len();
-            let work = plan.work();
-            let hyperperiod = plan.hyperperiod();
-            println!(rt; "READ {tables} {tasks} {work} {hyperperiod}")?;
+            println!(rt;
+                "READ {tables} {tasks} {} {}",
+                plan.work(),
+                plan.hyperperiod()
+            )?;
         }
-        Err(Fault::At { row, byte }) => {
-            let number = row.number();
-            println!(rt; "FAULT {number} {byte}")?;
-        }
-        Err(Fault::Memory) => return Err(anyhow!("no memory for the plan")),
+        Err(fault @ Fault::At { .. }) => println!(rt; "{fault}")?,
+        Err(fault) => return Err(fault.into()),
     }
     Ok(())
 }

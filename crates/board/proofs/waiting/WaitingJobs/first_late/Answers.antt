@@ -7,11 +7,13 @@ use Rattle.board.proofs.Activating.{first_more, first_found}
 use Rattle.board.proofs.waiting.WaitingJobs.first_late.Goals as goal
 
 pub returns-then-is_overdue : goal.returns-then-is_overdue
-returns-then-is_overdue g c w h =
+returns-then-is_overdue g c =
+    let tasks = c.tasks-task-items in
     first_found (λ k. past_due c.args.made (task_at (content c.args.plan.now) k).deadline (activation_of (g.Q.ReadyQueue.jobs c.args.self.now.queue k)))
-    c.loop-k.k (task_count (content c.args.plan.now)) (c.loop-k.invariant w h) (rw (← c.tasks-tasks.ensures, ← c.activation.ensures w h) (sym c.if-is_overdue.ensures)) (omega (arith, c.loop-k-test.true, ap length c.tasks-tasks.ensures))
+    c.loop-k.k (task_count (content c.args.plan.now)) c.loop-k.invariant (rw (← tasks.ensures, ← c.activation.ensures) (sym c.if-is_overdue.ensures)) (omega (arith, c.loop-k-test.true, ap length tasks.ensures))
 
 pub loop-k-preserved : goal.loop-k-preserved
-loop-k-preserved g c w h =
+loop-k-preserved g c =
+    let tasks = c.tasks-task-items in
     first_more (λ k. past_due c.args.made (task_at (content c.args.plan.now) k).deadline (activation_of (g.Q.ReadyQueue.jobs c.args.self.now.queue k)))
-    c.loop-k.k (c.loop-k.invariant w h) (rw (← c.tasks-tasks.ensures, ← c.activation.ensures w h) (sym c.if-is_overdue.ensures))
+    c.loop-k.k c.loop-k.invariant (rw (← tasks.ensures, ← c.activation.ensures) (sym c.if-is_overdue.ensures))

@@ -3,10 +3,11 @@ use Rattle.figures.proofs.Phases.{phase_meets}
 use Rattle.figures.proofs.windows.Own.window.Goals as goal
 
 pub returns : goal.returns
-returns c = record {
-  ticks = refl;
-  owns = refl;
-  limits = refl;
-  below = mod-lt _ (omega (arith, c.requires.within));
-  meets = phase_meets c.args.self.now.duration c.args.self.now.position c.args.x c.requires.within;
-}
+returns c =
+    let o = c.args.self.now in record {
+      ticks = refl;
+      owns = refl;
+      limits = refl;
+      below = mod-lt _ (omega (arith, o.within));
+      meets = phase_meets o.duration o.position c.args.x o.within;
+    }

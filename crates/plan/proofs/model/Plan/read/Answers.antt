@@ -9,13 +9,10 @@ use Rattle.plan.proofs.model.Plan.read.Goals as goal
 pub finish-requires : goal.finish-requires
 finish-requires c = sets_lawful c.args.file.now (drafted c.take_file.new.self) c.in_ok-take_file.ensures
 
-pub returns-in_err-take_file : goal.returns-in_err-take_file
-returns-in_err-take_file c =
+pub returns-in_err-take_file-clause-law : goal.returns-in_err-take_file-clause-law
+returns-in_err-take_file-clause-law c =
     let p = err_from_is_err_and c.from_residual.result c.from_residual.ensures.1 in
-    let q = fails c.args.file.now (content c.args.self.now) c.take_file.new.self _ c.in_err-take_file.ensures in
-    rw (p.1, p.2) (record { defined = q.0; law = q.1 })
+    rw (p.1, p.2) (fails c.args.file.now (content c.args.self.now) c.take_file.new.self _ c.in_err-take_file.ensures)
 
-pub returns : goal.returns
-returns c =
-    let d = c.in_ok-take_file.ensures ∙ ap sets (sym c.finish.ensures) in
-    record { defined = d; law = sets_whole c.args.file.now _ d }
+pub returns-clause-law : goal.returns-clause-law
+returns-clause-law c = sets_whole c.args.file.now _ (c.in_ok-take_file.ensures ∙ ap sets (sym c.finish.ensures))

@@ -1,7 +1,0 @@
-use Rattle.std.proofs.Common.{◌≡◌, ◌≤◌}
-use Rattle.figures.specs.Loads.{most_of_table}
-use Rattle.figures.specs.Ceilings.{greatest, part_at}
-use Rattle.figures.proofs.ceiling.peak.Given as goal
-
-abbrev pub invariant-loop-point : goal.invariant-loop-point
-invariant-loop-point l = (l.most ≡ greatest l.point-index (part_at l.points l.table l.group l.z l.u)) × (l.most ≤ most_of_table)
