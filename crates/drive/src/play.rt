@@ -76,7 +76,11 @@ fn spaced(alloc: Global, line: &str) -> Result<String, AllocError> {
     words.join(alloc, " ")
 }
 
-pub fn play<Q: ReadyQueue + Drop>(rt: &HostRuntime, plan: &Plan, queue: Q) -> anyhow::Result<()> {
+pub(crate) fn play<Q: ReadyQueue + Drop>(
+    rt: &HostRuntime,
+    plan: &Plan,
+    queue: Q,
+) -> anyhow::Result<()> {
     let Ok(mut board) = Board::rehearse(rt.alloc(), plan, queue) else {
         bail!("no memory for the board");
     };
