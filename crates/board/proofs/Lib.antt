@@ -7,3 +7,4 @@ pub mod Calling
 pub mod Whole
 pub mod RunLaws
 pub mod ServiceLaw
+pub mod Telling

@@ -1,10 +1,9 @@
 // Plays a drive on a new board, line by line.
 use anyhow::bail;
 use board::{Answer, Board, Call, Outcome};
-use orders::{Order, read_order};
+use orders::{Order, order_in, read_order};
 use plan::Plan;
 use ready::queue::ReadyQueue;
-use std::alloc::{AllocError, Global};
 use std::fmt;
 
 // A part of a line, `-` where there is nothing to tell.
@@ -70,10 +69,17 @@ fn obey<Q: ReadyQueue>(rt: &HostRuntime, board: &mut Board<Q>, asked: Order) -> 
     Ok(())
 }
 
-// The words of a line, one space apart: here any white space parts them, and for an order that of ASCII alone.
-fn spaced(alloc: Global, line: &str) -> Result<String, AllocError> {
-    let words: Vec<&str> = line.split_whitespace().collect(alloc)?;
-    words.join(alloc, " ")
+// What a line asks for. Beyond ASCII any white space parts words here, and none does for `read_order`.
+fn asked_in(line: &str) -> Option<Order> {
+    if line.is_ascii() {
+        return read_order(line.as_bytes());
+    }
+    let mut words = line.split_whitespace().map(str::as_bytes);
+    let verb = words.next();
+    let first = words.next();
+    let second = words.next();
+    let more = words.next();
+    order_in([verb, first, second, more])
 }
 
 pub(crate) fn play<Q: ReadyQueue + Drop>(
@@ -85,8 +91,7 @@ pub(crate) fn play<Q: ReadyQueue + Drop>(
         bail!("no memory for the board");
     };
     for (place, line) in (1u64..).zip(rt.lines(rt.alloc())) {
-        let words = spaced(rt.alloc(), &line?)?;
-        match read_order(words.as_bytes()) {
+        match asked_in(&line?) {
             Some(asked) => obey(rt, &mut board, asked)?,
             None => eprintln!(rt; "line {place}: not understood")?,
         }

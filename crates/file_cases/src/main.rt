@@ -17,12 +17,15 @@ fn digit(b: u8) -> Option<u8> {
 
 // The bytes that pairs of hexadecimal digits stand for; what is no digit is passed over.
 fn decoded(heap: Global, text: &[u8]) -> Result<Vec<u8>, AllocError> {
-    let digits: Vec<u8> = text.iter().filter_map(|b| digit(*b)).collect(heap)?;
-    let (pairs, _) = digits.as_chunks::<2>();
-    pairs
-        .iter()
-        .map(|[high, low]| high << 4 | low)
-        .collect(heap)
+    let mut bytes = Vec::new(heap);
+    let mut high: Option<u8> = None;
+    for low in text.iter().filter_map(|b| digit(*b)) {
+        match high.take() {
+            Some(high) => bytes.push(high << 4 | low)?,
+            None => high = Some(low),
+        }
+    }
+    Ok(bytes)
 }
 
 fn try_case(rt: &HostRuntime, plan: &mut Plan, line: &str) -> anyhow::Result<()> {

@@ -6,4 +6,4 @@ mod order;
 mod reading;
 
 pub use order::Order;
-pub use reading::read_order;
+pub use reading::{order_in, read_order};

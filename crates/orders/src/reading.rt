@@ -28,8 +28,8 @@ fn first_words(line: &[u8]) -> [Option<&[u8]>; 4]
     [verb, first, second, more]
 }
 
-// What words ask for, told as far as they can matter: a verb with up to two numbers.
-fn order_in(told: [Option<&[u8]>; 4]) -> Option<Order>
+// What words ask for, told as far as they can matter: a verb with up to two numbers. What is told past the first none is not read.
+pub fn order_in(told: [Option<&[u8]>; 4]) -> Option<Order>
     ensures { (words : List (List ℕ)) → BeginsWith words told.entry → result ≡ asked words }
 {
     match told {

@@ -1,5 +1,6 @@
 pub mod Counted
 pub mod Ranges
+pub mod Multiples
 pub mod Kept
 pub mod Work
 pub mod RowOrder

@@ -1,5 +1,5 @@
 -- How the rows on what a plan holds sit among all rows. Assumes nothing.
-use Rattle.std.proofs.Common.{◌≡◌, ℕ, zero, suc, get_or, ◌+◌, ◌-◌, ◌≤◌, Bool, true, false, ◌&&◌, eqb, ltb, leb, List, [], ◌∷◌, ◌++◌, length, Some, None, option_map, sym, refl, arith}
+use Rattle.std.proofs.Common.{◌≡◌, ℕ, zero, suc, get_or, ◌+◌, ◌-◌, ◌≤◌, Bool, true, false, ◌&&◌, eqb, ltb, leb, cond, List, [], ◌∷◌, ◌++◌, length, Option, Some, None, option_map, sym, refl, arith}
 use Rattle.std.specs.List.{find}
 use Rattle.std.proofs.lemmas.Option.{none-some}
 use Rattle.std.proofs.lemmas.Bool.Decides.{nat_tests}
@@ -14,6 +14,12 @@ pub first_found : (rows : List (Bool × Row)) → option_map (λ r. r.1) (find (
 first_found [] = refl
 first_found ((true, r) ∷ rows) = refl
 first_found ((false, r) ∷ rows) = first_found rows
+
+-- what a search among all rows but the last one found, or else the last one
+pub found_or : (rows : List (Bool × Row)) (found told : Option Row) (last : Bool) (row : Row) → found ≡ first_row rows → ((x : Row) → found ≡ Some x → told ≡ Some x) → (found ≡ None → told ≡ cond last (Some row) None) → told ≡ first_row (rows ++ (last, row) ∷ [])
+found_or [] found told last row e some none = none e
+found_or ((true, x) ∷ rows) found told last row e some none = some x e
+found_or ((false, x) ∷ rows) found told last row e some none = found_or rows found told last row e some none
 
 some_before : (xs ys : List (Bool × Row)) (row : Row) → first_row xs ≡ Some row → first_row (xs ++ ys) ≡ Some row
 some_before [] ys row e = absurd (none-some row e)

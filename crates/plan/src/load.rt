@@ -1,5 +1,5 @@
 // The hyperperiod of a plan, and the work that its tasks ask for in one hyperperiod.
-ghost use Rattle.std.specs.Prelude.{◌≡◌, Contains};
+ghost use Rattle.std.specs.Prelude.{◌≡◌, ◌≤◌, ◌%◌, ℕ, true, All, Contains};
 ghost use Rattle.plan.specs.Drafts.{drafted};
 ghost use Rattle.plan.specs.Plans.{content};
 ghost use Rattle.plan.specs.Rules.{divides, common_to, hyperperiod_found, hyperperiod_of, task_work, work_of, LeastCommonMultiple};
@@ -25,11 +25,27 @@ impl Draft {
             .all(|t| is_divisor(u32::from(t.duration), h))
     }
 
-    // The least common multiple of the durations, none where it is above the limit.
+    // The longest duration, and 1 where there is none: a step by which to count, so never 0.
+    fn longest(&self) -> u32
+        ensures positive { 1 ≤ result }
+        ensures longest { All (λ t. t.duration ≤ result) (drafted self.now).tables }
+        ensures divides_all { (h : ℕ) → common_to (drafted self.now).tables h ≡ true → h % result ≡ 0 }
+    {
+        self.tables
+            .iter()
+            .map(|t| u32::from(t.duration))
+            .fold(1, u32::max)
+    }
+
+    // The least common multiple of the durations, none where it is above the limit. Only the multiples of the longest
+    // duration are tried: every common multiple is one of them.
     pub(crate) fn hyperperiod(&self) -> Option<u32>
         ensures { result ≡ hyperperiod_found (drafted self.now) }
     {
-        (1..=MAX_HYPERPERIOD).find(|h| self.is_common(*h))
+        let step = self.longest();
+        (1..=MAX_HYPERPERIOD / step)
+            .map(|n| n * step)
+            .find(|h| self.is_common(*h))
     }
 }
 

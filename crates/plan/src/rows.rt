@@ -123,8 +123,11 @@ impl Draft {
             (self.too_many(command), Row::TooMany),
             (self.out_of_range(command), Row::OutOfRange),
             (self.not_rising(command), Row::NotRising),
-            (self.over_hyperperiod(command), Row::Hyperperiod),
         ];
-        rows.iter().find(|(breaks, _)| *breaks).map(|(_, row)| *row)
+        // The hyperperiod is sought only where no other row is broken.
+        rows.iter()
+            .find(|(breaks, _)| *breaks)
+            .map(|(_, row)| *row)
+            .or_else(|| self.over_hyperperiod(command).then_some(Row::Hyperperiod))
     }
 }
