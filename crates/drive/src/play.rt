@@ -1,4 +1,7 @@
 // Plays a drive on a new board, line by line.
+ghost use Rattle.std.specs.Prelude.{◌≡◌, IsAscii};
+ghost use Rattle.orders.specs.Lines.{order_of};
+
 use anyhow::bail;
 use board::{Answer, Board, Call, Outcome};
 use orders::{Order, order_in, read_order};
@@ -70,7 +73,9 @@ fn obey<Q: ReadyQueue>(rt: &HostRuntime, board: &mut Board<Q>, asked: Order) -> 
 }
 
 // What a line asks for. Beyond ASCII any white space parts words here, and none does for `read_order`.
-fn asked_in(line: &str) -> Option<Order> {
+fn asked_in(line: &str) -> Option<Order>
+    ensures { IsAscii line.now → result ≡ order_of line.now }
+{
     if line.is_ascii() {
         return read_order(line.as_bytes());
     }

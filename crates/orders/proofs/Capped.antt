@@ -1,8 +1,7 @@
 -- The value of a number's digits, which stops at the largest number.
-use Rattle.std.proofs.Common.{◌≡◌, ℕ, ◌+◌, ◌-◌, ◌*◌, ◌≢◌, min, true, false, ◌&&◌, List, [], ◌∷◌, length, map, Some, None, sym, refl, ap, ◌∙◌, arith}
-use Rattle.std.specs.List.{fold, list_all}
-use Rattle.std.specs.Char.{is_ascii_digit}
-use Rattle.std.proofs.lemmas.Bool.{cond-true, cond-false}
+use Rattle.std.proofs.Common.{◌≡◌, ℕ, ◌+◌, ◌-◌, ◌*◌, ◌≢◌, min, Bool, true, false, cond, ◌&&◌, List, [], ◌∷◌, length, Option, Some, None, option_and_then, sym, refl, ap, ◌∙◌, arith}
+use Rattle.std.proofs.lemmas.Bool.{cond-true}
+use Rattle.orders.proofs.TryFold.{try_fold}
 use Rattle.orders.specs.Numbers.{digit, all_digits, value_after, greatest, number_of}
 
 -- a number with one more digit, as the code makes it
@@ -14,30 +13,32 @@ capped_same : (bs : List ℕ) (m n : ℕ) → min m greatest ≡ min n greatest 
 capped_same [] m n e = e
 capped_same (b ∷ bs) m n e = capped_same bs (m * 10 + (b - 48)) (n * 10 + (b - 48)) (omega arith)
 
-fold-capped : (bs : List ℕ) (n : ℕ) → n ≡ min n greatest → fold capped n (map (λ b. b - 48) bs) ≡ min (value_after n bs) greatest
-fold-capped [] n e = e
-fold-capped (b ∷ bs) n e =
-    fold-capped bs (capped n (b - 48)) (omega arith)
-    ∙ capped_same bs (capped n (b - 48)) (n * 10 + (b - 48)) (omega arith)
+-- a number with one more byte, if that is a digit
+abbrev pub with_digit : ℕ → ℕ → Option ℕ
+with_digit n b = cond (digit b) (Some (capped n (b - 48))) None
 
-all_digits-list_all : (xs : List ℕ) → all_digits xs ≡ list_all is_ascii_digit xs
-all_digits-list_all [] = refl
-all_digits-list_all (b ∷ bs) = ap (λ t. digit b && t) (all_digits-list_all bs)
+with_digits : (bs : List ℕ) (n : ℕ) → n ≡ min n greatest → try_fold with_digit n bs ≡ cond (all_digits bs) (Some (min (value_after n bs) greatest)) None
+with_digits [] n e = ap (λ (x : ℕ). Some x) e
+with_digits (b ∷ bs) n e =
+    by (digit b)
+    (with_digits bs (capped n (b - 48)) (omega arith)
+    ∙ ap (λ (x : ℕ). cond (all_digits bs) (Some x) None) (capped_same bs (capped n (b - 48)) (n * 10 + (b - 48)) (omega arith)))
+  where
+    by : (t : Bool) → try_fold with_digit (capped n (b - 48)) bs ≡ cond (all_digits bs) (Some (min (value_after (n * 10 + (b - 48)) bs) greatest)) None
+        → option_and_then (λ m. try_fold with_digit m bs) (cond t (Some (capped n (b - 48))) None) ≡ cond (t && all_digits bs) (Some (min (value_after (n * 10 + (b - 48)) bs) greatest)) None
+    by true h = h
+    by false h = refl
 
 pub number_some : (xs : List ℕ) (n : ℕ) → length xs ≢ 0 → all_digits xs ≡ true → n ≡ min (value_after 0 xs) greatest → Some n ≡ number_of xs
 number_some [] n h e v = absurd (h refl)
 number_some (b ∷ bs) n h e v =
     ap (λ (x : ℕ). Some x) v ∙ sym (cond-true (all_digits (b ∷ bs)) (Some (min (value_after 0 (b ∷ bs)) greatest)) None e)
 
--- the answers of the code, by what its chains give
+-- the answers of the code
 pub number_if_empty : (xs : List ℕ) → length xs ≡ 0 → None ≡ number_of xs
 number_if_empty [] e = refl
 number_if_empty (b ∷ bs) e = let none : ⊥ = omega (arith, e) in absurd none
 
-pub number_unless_all : (xs : List ℕ) → false ≡ list_all is_ascii_digit xs → None ≡ number_of xs
-number_unless_all [] e = refl
-number_unless_all (b ∷ bs) e =
-    sym (cond-false (all_digits (b ∷ bs)) (Some (min (value_after 0 (b ∷ bs)) greatest)) None (all_digits-list_all (b ∷ bs) ∙ sym e))
-
-pub number_if_all : (xs : List ℕ) (n : ℕ) → length xs ≢ 0 → true ≡ list_all is_ascii_digit xs → n ≡ fold capped 0 (map (λ b. b - 48) xs) → Some n ≡ number_of xs
-number_if_all xs n h e v = number_some xs n h (all_digits-list_all xs ∙ sym e) (v ∙ fold-capped xs 0 refl)
+pub number_by_digits : (xs : List ℕ) (r : Option ℕ) → length xs ≢ 0 → r ≡ try_fold with_digit 0 xs → r ≡ number_of xs
+number_by_digits [] r h e = absurd (h refl)
+number_by_digits (b ∷ bs) r h e = e ∙ with_digits (b ∷ bs) 0 refl

@@ -1,3 +1,4 @@
+pub mod TryFold
 pub mod Capped
 pub mod Splits
 pub mod Spelled

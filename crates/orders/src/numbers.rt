@@ -6,11 +6,14 @@ ghost use Rattle.orders.specs.Numbers.{number_of};
 pub(crate) fn read_number(word: &[u8]) -> Option<u64>
     ensures { result ≡ number_of word.now }
 {
-    if word.is_empty() || !word.iter().all(|byte| byte.is_ascii_digit()) {
+    if word.is_empty() {
         return None;
     }
-    let digits = word.iter().map(|byte| u64::from(byte.saturating_sub(b'0')));
-    Some(digits.fold(0u64, |number, digit| {
-        number.saturating_mul(10).saturating_add(digit)
-    }))
+    word.iter().try_fold(0u64, |number, &byte| match byte {
+        b'0'..=b'9' => {
+            let digit = u64::from(byte - b'0');
+            Some(number.saturating_mul(10).saturating_add(digit))
+        }
+        _ => None,
+    })
 }

@@ -89,7 +89,7 @@ impl ReadyQueue for ArrivalList {
     ghost fronts = { λ q. arrival_front q.list.items q.apart };
 
     fn put(&mut self, job: Job) -> Result<(), PutRefusal> {
-        job.admit(job.is_fit() && self.holds(job.task))?;
+        job.admit(self.holds(job.task))?;
         self.append(job);
         Ok(())
     }

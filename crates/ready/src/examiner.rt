@@ -88,7 +88,7 @@ impl ReadyQueue for ExaminerQueue {
     ghost fronts = { λ q. front_ahead q.watch (slot_of q.slots) (examiners_front q.watch q.slots) (examiner_front q.watch q.slots q.each) };
 
     fn put(&mut self, job: Job) -> Result<(), PutRefusal> {
-        job.admit(job.is_fit() && self.holds(job.task))?;
+        job.admit(self.holds(job.task))?;
         self.fill(job.task, Some(job));
         Ok(())
     }

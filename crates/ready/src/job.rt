@@ -30,8 +30,7 @@ impl Job {
         self.task < MAX_TASKS && self.left > 0
     }
 
-    // Whether a queue takes it that holds a job of its task or holds none: what every put asks before it changes anything. Of a job
-    // that is not fit nobody need ask the queue that, which may take long.
+    // Whether a queue takes it that holds a job of its task or holds none: what every put asks before it changes anything.
     pub(crate) fn admit(self, held: bool) -> Result<(), PutRefusal>
         ensures { told result ≡ (if fit self then if held then Some (number_of Held) else None else Some (number_of BadJob)) }
     {
