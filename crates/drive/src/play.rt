@@ -72,7 +72,7 @@ fn obey<Q: ReadyQueue>(rt: &HostRuntime, board: &mut Board<Q>, asked: Order) -> 
     Ok(())
 }
 
-// What a line asks for. Beyond ASCII any white space parts words here, and none does for `read_order`.
+// What a line asks for. White space beyond ASCII parts words here, too, which for `read_order` is no white space.
 fn asked_in(line: &str) -> Option<Order>
     ensures { IsAscii line.now → result ≡ order_of line.now }
 {

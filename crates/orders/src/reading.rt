@@ -28,7 +28,8 @@ fn first_words(line: &[u8]) -> [Option<&[u8]>; 4]
     [verb, first, second, more]
 }
 
-// What words ask for, told as far as they can matter: a verb with up to two numbers. What is told past the first none is not read.
+// What words ask for, told as far as they can matter: a verb with up to two numbers. What stands past the first none
+// does not matter.
 pub fn order_in(told: [Option<&[u8]>; 4]) -> Option<Order>
     ensures { (words : List (List ℕ)) → BeginsWith words told.entry → result ≡ asked words }
 {

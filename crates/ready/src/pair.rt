@@ -61,7 +61,7 @@ impl<A: ReadyQueue, B: ReadyQueue> ReadyQueue for Pair<A, B> {
         (A.ReadyQueue.fronts q.first) (B.ReadyQueue.fronts q.second) };
 
     fn put(&mut self, job: Job) -> Result<(), PutRefusal> {
-        // The sides, which may be many, are asked only of a job that is fit.
+        // Only of a job that is fit the sides are asked, each of which may be a pair of pairs.
         job.admit(job.is_fit() && self.holds(job.task))?;
         if job.priority < self.cut {
             self.first.put(job)
